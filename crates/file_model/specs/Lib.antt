@@ -1,0 +1,9 @@
+pub mod Arrived
+pub mod Causes
+pub mod Disk
+pub mod Histories
+pub mod Images
+pub mod Kept
+pub mod Kinds
+pub mod Paths
+pub mod Reserved
