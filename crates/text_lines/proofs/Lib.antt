@@ -1,0 +1,4 @@
+pub mod Examples
+pub mod LineEnds
+pub mod Lines
+pub mod Texts
