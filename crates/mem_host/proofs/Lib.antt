@@ -1,0 +1,4 @@
+pub mod Mirrored
+pub mod Putting
+pub mod Replayed
+pub mod Resting

@@ -1,0 +1,27 @@
+use Rattle.std.proofs.Common.{sym, ◌∙◌, ap}
+use Rattle.mem_host.proofs.Resting.{untouched, silent_after}
+use Rattle.mem_host.proofs.host.MemHost.put_file.Goals as goal
+
+pub invariant_of-self : goal.invariant_of-self
+invariant_of-self c =
+    let before = c.self.invariant.untouched (ap (λ state. state.calls) c.self.view_is ∙ c.requires.untouched) in
+    let after = c.put_parents.ensures.puts before in record {
+      said = c.self.invariant.said ∙ ap (λ streams. streams.said) (silent_after c.self.inside.mirror before ∙ sym (silent_after c.put_parents.new.self after));
+      untouched = λ none. after;
+    }
+
+pub returns-in_err-put_parents-clause-at_rest : goal.returns-in_err-put_parents-clause-at_rest
+returns-in_err-put_parents-clause-at_rest c =
+    untouched c.put_parents.new.self (c.put_parents.ensures.puts (c.self.invariant.untouched (ap (λ state. state.calls) c.self.view_is ∙ c.requires.untouched)))
+
+pub invariant_of-self-2 : goal.invariant_of-self-2
+invariant_of-self-2 c =
+    let before = c.self.invariant.untouched (ap (λ state. state.calls) c.self.view_is ∙ c.requires.untouched) in
+    let after = c.put_file.ensures.puts (c.put_parents.ensures.puts before) in record {
+      said = c.self.invariant.said ∙ ap (λ streams. streams.said) (silent_after c.self.inside.mirror before ∙ sym (silent_after c.put_file.new.self after));
+      untouched = λ none. after;
+    }
+
+pub returns-clause-at_rest : goal.returns-clause-at_rest
+returns-clause-at_rest c =
+    untouched c.put_file.new.self (c.put_file.ensures.puts (c.put_parents.ensures.puts (c.self.invariant.untouched (ap (λ state. state.calls) c.self.view_is ∙ c.requires.untouched))))

@@ -1,0 +1,16 @@
+-- What a host in memory was asked, and what came of it.
+use Rattle.std.specs.Prelude.{ℕ, List}
+use Rattle.file_model.specs.Disk.{Call}
+
+pub data Event : Type 0 where
+  -- put on the disk at rest, before any call
+  put_directory : List ℕ → Event
+  put_file : List ℕ → List ℕ → Event
+  -- a call on the files, which was done or failed
+  did : Call → Event
+  refused : Call → Event
+  -- what a `hear` gave where there was room for so many bytes
+  heard : ℕ → List ℕ → Event
+  hear_failed : Event
+  said : List ℕ → Event
+  say_failed : List ℕ → Event

@@ -1,0 +1,11 @@
+pub mod Coming
+pub mod Events
+pub mod Host
+pub mod Input
+pub mod Mirror
+pub mod Mirrored
+pub mod Notes
+pub mod Putting
+pub mod Replay
+pub mod Soundness
+pub mod State

@@ -1,0 +1,16 @@
+//! A host in memory, for tests: a disk, an input cut into pieces, and an output. Calls can be made to fail by their number.
+//!
+//! It is modelled: `State` is the list of what it was asked, and its history replays that list from an empty disk.
+//! What reads see is kept in maps beside it, and is proved to be the seen image of the replayed disk. So the record
+//! itself has no bytes: a call that finds no memory fails, and is on the record like any other.
+#![tactic(auto)]
+
+mod files;
+mod host;
+mod input;
+mod mirror;
+mod names;
+mod record;
+mod streams;
+
+pub use host::MemHost;

@@ -1,0 +1,180 @@
+// What reads see of the disk, kept beside the record that it is the outcome of.
+ghost use Rattle.std.specs.Prelude.{◌≡◌, ◌≤◌, ◌-◌, ◌∷◌, min, length, take, drop, [], List, ℕ, OnOk, OnErr, IsErr, None, true, option_map, if◌then◌else◌};
+ghost use Rattle.std.specs.Borrow.{Bor};
+ghost use Rattle.std.specs.Str.{bytes_eq};
+ghost use Rattle.file_model.specs.Disk.{make};
+ghost use Rattle.file_model.specs.Images.{node_at, bytes_at, is_directory, file, directory};
+ghost use Rattle.file_model.specs.Kinds.{kind_of, IsFile, Gives};
+ghost use Rattle.mem_host.specs.Events.{did, refused, heard, hear_failed, said, say_failed};
+ghost use Rattle.mem_host.specs.Replay.{seen_after, AllPut};
+ghost use Rattle.mem_host.specs.Putting.{NoFileAbove, with_parents};
+
+use crate::names::{Place, content_at, kind_at, put_content, put_name};
+use crate::record::{Note, Record, Request};
+use file_model::{Failed, Kind};
+use std::alloc::{AllocError, Global};
+use std::collections::BTreeMap;
+use std::marker::Model;
+
+#[derive(Drop)]
+pub(crate) struct Mirror {
+    alloc: Global,
+    names: BTreeMap<String, Place>,
+    contents: Vec<Vec<u8>>,
+    record: Record,
+}
+
+impl Model for Mirror {
+    ghost use Rattle.std.specs.Prelude.{List};
+    ghost use Rattle.mem_host.specs.Events.{Event};
+
+    ghost Value = { List Event };
+
+    ghost use Rattle.mem_host.specs.Mirror.{events_of, IsMirror};
+
+    ghost view = { events_of };
+
+    ghost invariant = { IsMirror };
+}
+
+fn fill_from(bytes: &[u8], from: usize, buf: &mut [u8]) -> usize
+    requires { from ≤ length bytes.now }
+    ensures count { result ≡ min (length buf.new) (length bytes.now - from) }
+    ensures bytes { take result buf.new ≡ take result (drop from bytes.now) }
+    ensures rest { drop result buf.new ≡ drop result buf.old }
+{
+    let left = bytes.len() - from;
+    let count = left.min(buf.len());
+    buf[..count].copy_from_slice(&bytes[from..from + count]);
+    count
+}
+
+impl Mirror {
+    ghost use Rattle.mem_host.specs.Notes.{call_of};
+
+    pub(crate) fn new(alloc: Global) -> Mirror
+        ensures { result ≡ [] }
+    {
+        Mirror {
+            alloc,
+            names: BTreeMap::new(alloc),
+            contents: Vec::new(alloc),
+            record: Record::new(),
+        }
+    }
+
+    pub(crate) fn kind_at(&self, path: &str) -> Kind
+        ensures { result ≡ kind_of (node_at (seen_after self.now) path.now) }
+    {
+        kind_at(&self.names, self.contents.as_slice(), path)
+    }
+
+    pub(crate) fn content_at(&self, path: &str) -> Option<&[u8]>
+        ensures { option_map (λ (b : Bor (List ℕ)). b.now) result ≡ bytes_at (seen_after self.now) path.now }
+    {
+        content_at(&self.names, self.contents.as_slice(), path)
+    }
+
+    /// Fills the buffer with what stands in a file from a place on, and gives the count.
+    pub(crate) fn read_at(&self, path: &str, from: u64, buf: &mut [u8]) -> usize
+        requires { IsFile (seen_after self.now) path.now from }
+        ensures gives { Gives (seen_after self.now) path.now from result buf.new }
+        ensures rest { drop result buf.new ≡ drop result buf.old }
+        ensures within { result ≤ length buf.new }
+    {
+        match self.content_at(path) {
+            Some(bytes) => fill_from(bytes, from as usize, buf),
+            None => unreachable!(),
+        }
+    }
+
+    /// Makes an empty file where nothing stands.
+    pub(crate) fn make(&mut self, path: &str) -> Result<(), Failed>
+        ensures ok { OnOk result (self.new ≡ did (make path.now) ∷ self.old) }
+        ensures err { OnErr result (self.new ≡ self.old) }
+        ensures obstructed { is_directory (seen_after self.old) path.now ≡ true → IsErr result }
+    {
+        if self.names.contains_key(path) {
+            return Err(Failed);
+        }
+        let empty = Vec::new(self.alloc);
+        match put_content(self.alloc, &mut self.names, &mut self.contents, path, empty) {
+            Ok(()) => {
+                self.record.add(&Note::Did(Request::Make(path)));
+                Ok(())
+            }
+            Err(_) => Err(Failed),
+        }
+    }
+
+    /// Puts a directory on the disk at rest, unless one stands there.
+    pub(crate) fn put_directory(&mut self, path: &str) -> Result<(), AllocError>
+        requires { bytes_at (seen_after self.old) path.now ≡ None }
+        ensures ok { OnOk result ((q : List ℕ) → node_at (seen_after self.new) q ≡ (if bytes_eq q path.now then directory else node_at (seen_after self.old) q)) }
+        ensures err { OnErr result (self.new ≡ self.old) }
+        ensures puts { AllPut self.old → AllPut self.new }
+    {
+        if !self.names.contains_key(path) {
+            put_name(self.alloc, &mut self.names, path, Place::Dir)?;
+            self.record.add(&Note::PutDirectory(path));
+        }
+        Ok(())
+    }
+
+    /// Puts the directories that a path leads through.
+    pub(crate) fn put_parents(&mut self, path: &str) -> Result<(), AllocError>
+        requires { NoFileAbove (seen_after self.old) path.now }
+        ensures ok { OnOk result ((q : List ℕ) → node_at (seen_after self.new) q ≡ with_parents (seen_after self.old) path.now q) }
+        ensures err { OnErr result ((q : List ℕ) → bytes_at (seen_after self.new) q ≡ bytes_at (seen_after self.old) q) }
+        ensures puts { AllPut self.old → AllPut self.new }
+    {
+        for (at, byte) in path.as_bytes().iter().enumerate() {
+            if *byte == b'/' && at > 0 {
+                self.put_directory(&path[..at])?;
+            }
+        }
+        Ok(())
+    }
+
+    /// Puts a file on the disk at rest.
+    pub(crate) fn put_file(&mut self, path: &str, bytes: &[u8]) -> Result<(), AllocError>
+        ensures ok { OnOk result ((q : List ℕ) → node_at (seen_after self.new) q ≡ (if bytes_eq q path.now then file bytes.now else node_at (seen_after self.old) q)) }
+        ensures err { OnErr result (self.new ≡ self.old) }
+        ensures puts { AllPut self.old → AllPut self.new }
+    {
+        let copy = Vec::from_slice(self.alloc, bytes)?;
+        put_content(self.alloc, &mut self.names, &mut self.contents, path, copy)?;
+        self.record.add(&Note::PutFile(path, bytes));
+        Ok(())
+    }
+
+    pub(crate) fn refuse(&mut self, request: Request<'_>)
+        ensures { self.new ≡ refused (call_of request.entry) ∷ self.old }
+    {
+        self.record.add(&Note::Refused(request));
+    }
+
+    pub(crate) fn hear(&mut self, room: usize, piece: &[u8])
+        ensures { self.new ≡ heard room piece.now ∷ self.old }
+    {
+        self.record.add(&Note::Heard(room, piece));
+    }
+
+    pub(crate) fn hear_nothing(&mut self)
+        ensures { self.new ≡ hear_failed ∷ self.old }
+    {
+        self.record.add(&Note::HearFailed);
+    }
+
+    pub(crate) fn say(&mut self, bytes: &[u8])
+        ensures { self.new ≡ said bytes.now ∷ self.old }
+    {
+        self.record.add(&Note::Said(bytes));
+    }
+
+    pub(crate) fn say_nothing(&mut self, bytes: &[u8])
+        ensures { self.new ≡ say_failed bytes.now ∷ self.old }
+    {
+        self.record.add(&Note::SayFailed(bytes));
+    }
+}
