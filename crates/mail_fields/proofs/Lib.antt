@@ -1,0 +1,10 @@
+pub mod CivilDates
+pub mod DateLengths
+pub mod DatePlaces
+pub mod DateTexts
+pub mod Days
+pub mod Digits
+pub mod Examples
+pub mod FromDateReads
+pub mod ReadBack
+pub mod Texts

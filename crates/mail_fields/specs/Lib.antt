@@ -1,0 +1,12 @@
+pub mod CivilDays
+pub mod Clock
+pub mod DelimiterLine
+pub mod FieldDate
+pub mod FromDate
+pub mod ImapDate
+pub mod Keyword
+pub mod MixDate
+pub mod Numbers
+pub mod SearchDate
+pub mod Stamps
+pub mod Texts
