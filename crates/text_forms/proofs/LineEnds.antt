@@ -1,0 +1,186 @@
+-- Line ends: a line with another end in place of its own.
+use Rattle.std.proofs.Common.{◌≡◌, ℕ, ◌+◌, ◌<◌, true, false, List, [], ◌∷◌, ◌++◌, ◌==◌, ◌&&◌, ⊎_elim, nat_lt, length, length-append, refl, ap, sym, ◌∙◌, arith}
+use Rattle.std.proofs.lemmas.Bool.{cases_Bool, cond-true, cond-false, false≢true}
+use Rattle.std.proofs.lemmas.Bool.Decides.{nat_tests}
+use Rattle.text_lines.specs.Lines.{line_text, line_end_of, is_line_end}
+use Rattle.text_lines.proofs.LineEnds.{text-then-end}
+use Rattle.text_lines.proofs.Texts.{is_closed, is_open, some-byte}
+use Rattle.text_forms.specs.Lines.{is_ended, with_end, ended_line}
+
+same_test : (a b c : ℕ) → a + b ≡ c → nat_lt a c ≡ nat_lt 0 b
+same_test a b c e = grind (arith, nat_tests)
+
+some_test : (n : ℕ) → 0 < n → nat_lt 0 n ≡ true
+some_test n some = grind (arith, nat_tests)
+
+-- a line is longer than its text where it has a line end
+pub shorter_text : (line : List ℕ) → nat_lt (length (line_text line)) (length line) ≡ is_ended line
+shorter_text line =
+    let e : length (line_text line) + length (line_end_of line) ≡ length line = sym (length-append _ _) ∙ ap length (text-then-end line) in
+    same_test _ _ _ e
+
+-- a line end with a byte before it
+end-behind : (byte : ℕ) (rest : List ℕ) → 0 < length rest → is_line_end (byte ∷ rest) ≡ ((byte == 13) && is_line_end rest)
+end-behind byte [] some = absurd (omega arith)
+end-behind byte (next ∷ rest) some = refl
+
+-- a byte other than CR and LF before a line makes no line end
+pub no-end-behind : (byte : ℕ) (rest : List ℕ) → (byte == 10) ≡ false → (byte == 13) ≡ false → is_line_end (byte ∷ rest) ≡ false
+no-end-behind byte [] feed return = feed
+no-end-behind byte (next ∷ rest) feed return = ap (λ t. t && is_line_end (next ∷ rest)) return
+
+-- the first byte of a closed line that is no line end
+closed-other : (byte : ℕ) (rest : List ℕ) → is_closed (byte ∷ rest) ≡ true → is_line_end (byte ∷ rest) ≡ false → (byte == 10) ≡ false
+closed-other byte [] closed more = more
+closed-other byte (next ∷ rest) closed more = ⊎_elim
+    (λ feed. absurd (false≢true (sym (cond-true (byte == 10) false (is_closed (next ∷ rest)) feed) ∙ closed)))
+    (λ other. other)
+    (cases_Bool (byte == 10))
+
+closed-behind : (byte : ℕ) (rest : List ℕ) → (byte == 10) ≡ false → is_closed (byte ∷ rest) ≡ true → is_closed rest ≡ true
+closed-behind byte [] other closed = absurd (false≢true (sym (cond-false (byte == 10) true false other) ∙ closed))
+closed-behind byte (next ∷ rest) other closed = sym (cond-false (byte == 10) false (is_closed (next ∷ rest)) other) ∙ closed
+
+-- a byte other than LF before a closed line
+pub closed-before : (byte : ℕ) (rest : List ℕ) → (byte == 10) ≡ false → is_closed rest ≡ true → is_closed (byte ∷ rest) ≡ true
+closed-before byte [] other closed = absurd (false≢true closed)
+closed-before byte (next ∷ rest) other closed = cond-false (byte == 10) false (is_closed (next ∷ rest)) other ∙ closed
+
+pub open-before : (byte : ℕ) (rest : List ℕ) → (byte == 10) ≡ false → is_open rest ≡ true → is_open (byte ∷ rest) ≡ true
+open-before byte rest other is = cond-false (byte == 10) false (is_open rest) other ∙ is
+
+open-first : (byte : ℕ) (rest : List ℕ) → is_open (byte ∷ rest) ≡ true → (byte == 10) ≡ false
+open-first byte rest is = ⊎_elim
+    (λ feed. absurd (false≢true (sym (cond-true (byte == 10) false (is_open rest) feed) ∙ is)))
+    (λ other. other)
+    (cases_Bool (byte == 10))
+
+open-behind : (byte : ℕ) (rest : List ℕ) → is_open (byte ∷ rest) ≡ true → is_open rest ≡ true
+open-behind byte rest is = sym (cond-false (byte == 10) false (is_open rest) (open-first byte rest is)) ∙ is
+
+-- a line without LF has no line end
+open-no-end : (line : List ℕ) → is_open line ≡ true → is_line_end line ≡ false
+open-no-end [] is = refl
+open-no-end (byte ∷ []) is = open-first byte [] is
+open-no-end (byte ∷ next ∷ rest) is =
+    let inner = open-no-end (next ∷ rest) (open-behind byte (next ∷ rest) is) in
+    elim (byte == 13) as (λ t. (t && is_line_end (next ∷ rest)) ≡ false) [ true ↦ inner | false ↦ refl ]
+
+open-end : (line : List ℕ) → is_open line ≡ true → line_end_of line ≡ []
+open-end [] is = refl
+open-end (byte ∷ rest) is =
+    cond-false (is_line_end (byte ∷ rest)) (byte ∷ rest) (line_end_of rest) (open-no-end (byte ∷ rest) is)
+    ∙ open-end rest (open-behind byte rest is)
+
+pub open-not-ended : (line : List ℕ) → is_open line ≡ true → is_ended line ≡ false
+open-not-ended line is = ap (λ end. nat_lt 0 (length end)) (open-end line is)
+
+closed-end : (line : List ℕ) → is_closed line ≡ true → 0 < length (line_end_of line)
+closed-end [] closed = absurd (false≢true closed)
+closed-end (byte ∷ rest) closed = ⊎_elim
+    (λ whole.
+    let e = ap length (cond-true (is_line_end (byte ∷ rest)) (byte ∷ rest) (line_end_of rest) whole) in
+    omega arith)
+    (λ part.
+    let other = closed-other byte rest closed part in
+    let inner = closed-end rest (closed-behind byte rest other closed) in
+    let e = ap length (cond-false (is_line_end (byte ∷ rest)) (byte ∷ rest) (line_end_of rest) part) in
+    omega arith)
+    (cases_Bool (is_line_end (byte ∷ rest)))
+
+pub closed-ended : (line : List ℕ) → is_closed line ≡ true → is_ended line ≡ true
+closed-ended line closed = some_test _ (closed-end line closed)
+
+-- what stands before the line end has no LF
+closed-text : (line : List ℕ) → is_closed line ≡ true → is_open (line_text line) ≡ true
+closed-text [] closed = refl
+closed-text (byte ∷ rest) closed = ⊎_elim
+    (λ whole. ap is_open (cond-true (is_line_end (byte ∷ rest)) [] (byte ∷ line_text rest) whole))
+    (λ part.
+    let other = closed-other byte rest closed part in
+    let inner = closed-text rest (closed-behind byte rest other closed) in
+    ap is_open (cond-false (is_line_end (byte ∷ rest)) [] (byte ∷ line_text rest) part)
+    ∙ open-before byte (line_text rest) other inner)
+    (cases_Bool (is_line_end (byte ∷ rest)))
+
+-- bytes without LF and a closed line are a closed line
+pub open-then-closed : (front line : List ℕ) → is_open front ≡ true → is_closed line ≡ true → is_closed (front ++ line) ≡ true
+open-then-closed [] line is closed = closed
+open-then-closed (byte ∷ front) line is closed =
+    closed-before byte (front ++ line) (open-first byte front is) (open-then-closed front line (open-behind byte front is) closed)
+
+module _ (end : List ℕ) (is : is_line_end end ≡ true) where
+  end-text : line_text end ≡ []
+  end-text = whole end is
+    where
+      whole : (line : List ℕ) → is_line_end line ≡ true → line_text line ≡ []
+      whole [] h = refl
+      whole (byte ∷ rest) h = cond-true (is_line_end (byte ∷ rest)) [] (byte ∷ line_text rest) h
+
+  some-end : (front : List ℕ) → 0 < length (front ++ end)
+  some-end front = some-of front end is
+    where
+      some-of : (front line : List ℕ) → is_line_end line ≡ true → 0 < length (front ++ line)
+      some-of [] [] h = absurd (false≢true h)
+      some-of [] (byte ∷ rest) h = omega arith
+      some-of (byte ∷ front) line h = omega arith
+
+  -- the text with another end is a line end where the line is one
+  end-same : (line : List ℕ) → is_closed line ≡ true → is_line_end (line_text line ++ end) ≡ is_line_end line
+  end-same [] closed = absurd (false≢true closed)
+  end-same (byte ∷ rest) closed = ⊎_elim
+      (λ whole.
+      ap (λ text. is_line_end (text ++ end)) (cond-true (is_line_end (byte ∷ rest)) [] (byte ∷ line_text rest) whole)
+      ∙ is ∙ sym whole)
+      (λ part.
+      let other = closed-other byte rest closed part in
+      let behind = closed-behind byte rest other closed in
+      ap (λ text. is_line_end (text ++ end)) (cond-false (is_line_end (byte ∷ rest)) [] (byte ∷ line_text rest) part)
+      ∙ end-behind byte (line_text rest ++ end) (some-end (line_text rest))
+      ∙ ap (λ t. (byte == 13) && t) (end-same rest behind)
+      ∙ sym (end-behind byte rest (some-byte rest behind)))
+      (cases_Bool (is_line_end (byte ∷ rest)))
+
+  -- another line end leaves the text of a line
+  text-same : (line : List ℕ) → is_closed line ≡ true → line_text (line_text line ++ end) ≡ line_text line
+  text-same [] closed = absurd (false≢true closed)
+  text-same (byte ∷ rest) closed = ⊎_elim
+      (λ whole.
+      let none = cond-true (is_line_end (byte ∷ rest)) [] (byte ∷ line_text rest) whole in
+      ap (λ text. line_text (text ++ end)) none ∙ end-text ∙ sym none)
+      (λ part.
+      let other = closed-other byte rest closed part in
+      let behind = closed-behind byte rest other closed in
+      let some = cond-false (is_line_end (byte ∷ rest)) [] (byte ∷ line_text rest) part in
+      let open_end : is_line_end (byte ∷ (line_text rest ++ end)) ≡ false =
+      sym (ap (λ text. is_line_end (text ++ end)) some) ∙ end-same (byte ∷ rest) closed ∙ part in
+      ap (λ text. line_text (text ++ end)) some
+      ∙ cond-false (is_line_end (byte ∷ (line_text rest ++ end))) [] (byte ∷ line_text (line_text rest ++ end)) open_end
+      ∙ ap (λ text. byte ∷ text) (text-same rest behind) ∙ sym some)
+      (cases_Bool (is_line_end (byte ∷ rest)))
+
+  module _ (one : is_closed end ≡ true) where
+    pub with-end-closed : (line : List ℕ) → is_closed line ≡ true → is_closed (with_end end line) ≡ true
+    with-end-closed line closed =
+        ap is_closed (cond-true (is_ended line) (line_text line ++ end) line (closed-ended line closed))
+        ∙ open-then-closed (line_text line) end (closed-text line closed) one
+
+    pub with-end-open : (line : List ℕ) → is_open line ≡ true → with_end end line ≡ line
+    with-end-open line open_line = cond-false (is_ended line) (line_text line ++ end) line (open-not-ended line open_line)
+
+    pub with-end-twice : (line : List ℕ) → is_closed line ≡ true → with_end end (with_end end line) ≡ with_end end line
+    with-end-twice line closed =
+        let new = line_text line ++ end in
+        let once : with_end end line ≡ new = cond-true (is_ended line) new line (closed-ended line closed) in
+        let again : is_closed new ≡ true = sym (ap is_closed once) ∙ with-end-closed line closed in
+        ap (with_end end) once
+        ∙ cond-true (is_ended new) (line_text new ++ end) new (closed-ended new again)
+        ∙ ap (λ text. text ++ end) (text-same line closed) ∙ sym once
+
+pub ended-closed : (line : List ℕ) → is_closed line ≡ true → ended_line line ≡ line
+ended-closed line closed = cond-true (is_ended line) line (line ++ 10 ∷ []) (closed-ended line closed)
+
+pub ended-open : (line : List ℕ) → is_open line ≡ true → is_closed (ended_line line) ≡ true
+ended-open line is =
+    ap is_closed (cond-false (is_ended line) line (line ++ 10 ∷ []) (open-not-ended line is))
+    ∙ open-then-closed line (10 ∷ []) is refl
