@@ -1,0 +1,11 @@
+//! Runs of the crates on texts, dates and fields, as tables.
+#![tactic(auto)]
+
+#[cfg(test)]
+mod dates;
+#[cfg(test)]
+mod forms_of_texts;
+#[cfg(test)]
+mod from_dates;
+#[cfg(test)]
+mod header_fields;
