@@ -1,0 +1,8 @@
+use Rattle.imap_grammar.specs.Stream.{unfinished}
+use Rattle.imap_grammar.proofs.Kept.{none_left}
+use Rattle.imap_grammar.proofs.feed.Feed.at_rest.Goals as goal
+
+pub returns : goal.returns
+returns c stream taken =
+    let kept = c.args.self.now.kept in
+    none_left c.is_empty.result kept.len kept.items (unfinished stream) c.is_empty.ensures kept.ok.0 taken.kept
