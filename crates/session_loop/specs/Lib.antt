@@ -1,0 +1,4 @@
+pub mod Machine
+pub mod Instants
+pub mod Outcome
+pub mod Headline
