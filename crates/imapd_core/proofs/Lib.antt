@@ -1,0 +1,4 @@
+pub mod CountedText
+mod Examples
+pub mod Opened
+pub mod Served

@@ -1,0 +1,30 @@
+use Rattle.std.proofs.Common.{◌≡◌, ℕ, sym, ◌∙◌, subst}
+use Rattle.file_model.specs.declared.files.Kind.TheVariants.{Nothing, File, Dir}
+use Rattle.file_model.specs.Disk.{make}
+use Rattle.file_model.specs.Histories.{GoesOn}
+use Rattle.imapd_core.proofs.Opened.{made_ran, made_now, nothing_now, there_ended}
+use Rattle.imapd_core.proofs.opening.make_missing.Goals as goal
+
+pub returns-in-Nothing-clause-instants : goal.returns-in-Nothing-clause-instants
+returns-in-Nothing-clause-instants g c =
+    made_ran c.args.path.now c.make.result _ _ (g.met.F.Files.sound c.args.files.now) (nothing_now c.args.path.now c.in_ok-stat.field-0 _ c.in-Nothing.is c.in_ok-stat.ensures.kind)
+    (subst (λ h. GoesOn (make c.args.path.now) c.make.result h (g.F.Files.history c.make.new.self)) c.in_ok-stat.ensures.same c.make.ensures.goes_on)
+
+pub returns-in-Nothing-clause-made : goal.returns-in-Nothing-clause-made
+returns-in-Nothing-clause-made g c =
+    made_now c.args.path.now c.make.result _ _ (g.met.F.Files.sound c.args.files.now) (nothing_now c.args.path.now c.in_ok-stat.field-0 _ c.in-Nothing.is c.in_ok-stat.ensures.kind)
+    (subst (λ h. GoesOn (make c.args.path.now) c.make.result h (g.F.Files.history c.make.new.self)) c.in_ok-stat.ensures.same c.make.ensures.goes_on)
+
+file_there : (len : ℕ) → File len ≡ Nothing → ⊥
+file_there len is = cc
+
+directory_there : Dir ≡ Nothing → ⊥
+directory_there is = cc
+
+pub returns-in-File-clause-made : goal.returns-in-File-clause-made
+returns-in-File-clause-made g c =
+    there_ended c.args.path.now c.in_ok-stat.field-0 _ _ (λ none. file_there _ (sym c.in-File.is ∙ none)) c.in_ok-stat.ensures.kind c.in_ok-stat.ensures.same
+
+pub returns-in-Dir-clause-made : goal.returns-in-Dir-clause-made
+returns-in-Dir-clause-made g c =
+    there_ended c.args.path.now c.in_ok-stat.field-0 _ _ (λ none. directory_there (sym c.in-Dir.is ∙ none)) c.in_ok-stat.ensures.kind c.in_ok-stat.ensures.same

@@ -1,0 +1,18 @@
+use Rattle.std.proofs.Common.{◌∙◌}
+use Rattle.imapd_core.proofs.Opened.{in_root, opening_passed, opening_opened}
+use Rattle.imapd_core.proofs.opening.open_in.Goals as goal
+
+pub make_missing-requires : goal.make_missing-requires
+make_missing-requires g c = record { room = in_root c.args.root.now c.as_str.result.now _ (c.as_str.ensures.value ∙ c.in-Ok.ensures) c.requires.root }
+
+pub returns-in-Ok-make_missing-clause-instants : goal.returns-in-Ok-make_missing-clause-instants
+returns-in-Ok-make_missing-clause-instants g c state is =
+    opening_passed c.args.root.now c.as_str.result.now state _ _ (c.as_str.ensures.value ∙ c.in-Ok.ensures) is c.make_missing.ensures.instants
+
+pub returns-in-Ok-make_missing-clause-opened : goal.returns-in-Ok-make_missing-clause-opened
+returns-in-Ok-make_missing-clause-opened g c state is =
+    opening_opened c.args.root.now c.as_str.result.now state _ _ (c.as_str.ensures.value ∙ c.in-Ok.ensures) is c.make_missing.ensures.instants c.in-Ok-make_missing.ensures.made
+
+pub returns-in-Err-clause-instants : goal.returns-in-Err-clause-instants
+returns-in-Err-clause-instants g c state is =
+    opening_passed c.args.root.now c.as_str.result.now state _ _ (c.as_str.ensures.value ∙ c.in-Ok.ensures) is c.make_missing.ensures.instants

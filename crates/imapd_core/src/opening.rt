@@ -1,0 +1,89 @@
+// Before the greeting.
+ghost use Rattle.std.specs.Prelude.{◌≡◌, ◌≢◌, true, false, IfOk, IfErr, OnOk, string_bytes};
+ghost use Rattle.file_model.specs.Paths.{parent};
+ghost use Rattle.file_model.specs.Images.{is_directory};
+ghost use Rattle.file_model.specs.Disk.{seen};
+ghost use Rattle.file_model.specs.Histories.{Now, Passed, Ran, Ended};
+ghost use Rattle.file_model.specs.Causes.{FileCause};
+ghost use Rattle.file_model.specs.Kept.{MayMake};
+ghost use Rattle.session_loop.specs.Instants.{Answering, Opened};
+ghost use Rattle.imapd_core.specs.Replies.{State, StandsFor, protocol};
+ghost use Rattle.imapd_core.specs.Server.{inbox_of, first_state, IsMade, OpeningCause, NoLines};
+
+use crate::inbox::Inbox;
+use file_model::{Failed, Files, Kind};
+use std::alloc::{AllocError, Global};
+
+/// Why no session was opened.
+#[derive(Clone, Copy, Debug, PartialEq, Eq)]
+pub enum NoSession {
+    /// No directory stands at the root.
+    Words,
+    FileFault,
+    Memory,
+}
+
+/// Opens the session of a root, and makes INBOX where nothing stands.
+pub fn open<F: Files>(alloc: Global, files: &mut F, root: &str) -> Result<Inbox, NoSession>
+    // At each instant nothing is said, and a crash leaves what was there, or that and an empty INBOX.
+    ensures instants { (state : State) → Now (F.history files.old) (λ w. state ≡ first_state root.now w.disk)
+        → Passed (Answering protocol state NoLines) (F.history files.old) (F.history files.new) }
+    ensures opened { (state : State) → Now (F.history files.old) (λ w. state ≡ first_state root.now w.disk)
+        → OnOk result (Opened protocol (StandsFor (inbox_of root.now)) state (F.history files.old) (F.history files.new)) }
+    ensures path { IfOk result (λ inbox. string_bytes inbox.path ≡ inbox_of root.now) }
+
+    // The words are refused exactly where no directory stands at the root, and nothing else is tried there.
+    ensures root { OnOk result (Now (F.history files.old) (λ w. is_directory (seen w.disk) root.now ≡ true)) }
+    ensures memory { IfErr result (λ e. e ≡ NoSession.Memory → Now (F.history files.old) (λ w. is_directory (seen w.disk) root.now ≡ true)) }
+    ensures words { IfErr result (λ e. e ≡ NoSession.Words → Now (F.history files.old) (λ w. is_directory (seen w.disk) root.now ≡ false)) }
+    ensures quiet { IfErr result (λ e. e ≡ NoSession.Words → F.history files.new ≡ F.history files.old) }
+    ensures cause { OpeningCause (F.faults files.old) (F.faults files.new) result }
+{
+    match files.stat(root) {
+        Ok(Kind::Dir) => open_in(alloc, files, root),
+        Ok(_) => Err(NoSession::Words),
+        Err(_) => Err(NoSession::FileFault),
+    }
+}
+
+// The same, where the root is a directory.
+fn open_in<F: Files>(alloc: Global, files: &mut F, root: &str) -> Result<Inbox, NoSession>
+    requires root { Now (F.history files.old) (λ w. is_directory (seen w.disk) root.now ≡ true) }
+    ensures instants { (state : State) → Now (F.history files.old) (λ w. state ≡ first_state root.now w.disk)
+        → Passed (Answering protocol state NoLines) (F.history files.old) (F.history files.new) }
+    ensures opened { (state : State) → Now (F.history files.old) (λ w. state ≡ first_state root.now w.disk)
+        → OnOk result (Opened protocol (StandsFor (inbox_of root.now)) state (F.history files.old) (F.history files.new)) }
+    ensures path { IfOk result (λ inbox. string_bytes inbox.path ≡ inbox_of root.now) }
+    ensures words { IfErr result (λ e. e ≢ NoSession.Words) }
+    ensures cause { OpeningCause (F.faults files.old) (F.faults files.new) result }
+{
+    let Ok(path) = inbox_path(alloc, root) else {
+        return Err(NoSession::Memory);
+    };
+    match make_missing(files, path.as_str()) {
+        Ok(()) => Ok(Inbox::at(alloc, path)),
+        Err(Failed) => Err(NoSession::FileFault),
+    }
+}
+
+fn inbox_path(alloc: Global, root: &str) -> Result<String, AllocError>
+    ensures { IfOk result (λ path. string_bytes path ≡ inbox_of root.now) }
+{
+    let mut path = String::from_str(alloc, root)?;
+    path.push_str("/INBOX")?;
+    Ok(path)
+}
+
+// Makes an empty file where nothing stands.
+fn make_missing<F: Files>(files: &mut F, path: &str) -> Result<(), Failed>
+    requires room { Now (F.history files.old) (λ w. is_directory (seen w.disk) (parent path.now) ≡ true) }
+    ensures instants { Ran (MayMake path.now) (F.history files.old) (F.history files.new) }
+    ensures made { OnOk result (Ended (IsMade path.now) (F.history files.old) (F.history files.new)) }
+    ensures cause { FileCause (F.faults files.old) (F.faults files.new) result }
+{
+    match files.stat(path)? {
+        Kind::Nothing => files.make(path),
+        Kind::File(_) => Ok(()),
+        Kind::Dir => Ok(()),
+    }
+}

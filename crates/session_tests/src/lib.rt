@@ -1,0 +1,17 @@
+//! Runs of the top call `imapd` over a host in memory, as tables.
+//!
+//! What the clauses of the top call say is proved there. The rows here tie the definitions that it cites to examples, and
+//! show that the call succeeds with ample memory.
+#![tactic(auto)]
+
+#[cfg(test)]
+mod failing_calls;
+#[cfg(test)]
+mod limits;
+#[cfg(test)]
+mod replies;
+pub mod run;
+#[cfg(test)]
+mod streams;
+#[cfg(test)]
+mod words;
