@@ -1,38 +1,52 @@
-//! The greatest INBOX and the longest line.
-use crate::run::{Disk, host, run};
+//! The greatest INBOX and the longest line, each run also with a byte for each read of the input.
+use crate::run::{Disk, bytewise, host, run};
+use imapd_core::Status;
 use std::alloc::{AllocError, Global};
+use std::process::Abort;
 
 const MOST: usize = 16 << 20;
 
-// What is said behind the greeting.
-fn said_of(alloc: Global, disk: Disk<'_>, input: &[u8]) -> Result<Vec<u8>, AllocError> {
-    let mut host = host(alloc, disk, input, &[], &[])?;
-    let _status = run(alloc, &mut host)?;
-    let said = host.said();
-    match said.iter().position(|byte| *byte == b'\n') {
-        Some(end) => Vec::from_slice(alloc, &said[end + 1..]),
-        None => Ok(Vec::new(alloc)),
+const STATUS: &[u8] = b"a STATUS INBOX (MESSAGES)\r\n";
+
+const GREETING: &[u8] = b"* PREAUTH [CAPABILITY IMAP4rev1] ready\r\n";
+
+// The session ends well, and this is said behind the greeting.
+fn says(
+    rt: &impl Abort,
+    alloc: Global,
+    disk: Disk<'_>,
+    input: &[u8],
+    said: &[u8],
+) -> Result<(), AllocError> {
+    let single_bytes = bytewise(alloc, input)?;
+    for cuts in [&[], single_bytes.as_slice()] {
+        let mut host = host(alloc, disk, input, cuts, &[])?;
+        let status = run(alloc, &mut host)?;
+        assert!(rt; status == Status::Done);
+        assert!(rt; host.said().strip_prefix(GREETING) == Some(said));
     }
+    Ok(())
 }
 
 #[test]
 fn an_inbox_of_16_mib_is_counted(rt: HostRuntime) -> Result<(), AllocError> {
     let mut inbox = Vec::new(rt.alloc());
     inbox.resize(MOST, b'x')?;
-    let said = said_of(
+    says(
+        &rt,
         rt.alloc(),
         Disk::Inbox(inbox.as_slice()),
-        b"a STATUS INBOX (MESSAGES)\r\n",
+        STATUS,
+        b"a NO ill-formed unix store after 0 records\r\n",
     )?;
-    assert!(rt; said.as_slice() == b"a NO ill-formed unix store after 0 records\r\n".as_slice());
     inbox.push(b'x')?;
-    let said = said_of(
+    says(
+        &rt,
         rt.alloc(),
         Disk::Inbox(inbox.as_slice()),
-        b"a STATUS INBOX (MESSAGES)\r\n",
-    )?;
-    assert!(rt; said.as_slice() == b"a NO not built\r\n".as_slice());
-    Ok(())
+        STATUS,
+        b"a NO not built\r\n",
+    )
 }
 
 // Of a line its first 65,536 bytes count; each of these is another line, with its tag.
@@ -42,10 +56,13 @@ fn a_long_line_is_one_line(rt: HostRuntime) -> Result<(), AllocError> {
         let mut input = Vec::from_slice(rt.alloc(), b"a ")?;
         input.resize(length, b'x')?;
         input.extend_from_slice(b"\r\nb LOGOUT\r\n")?;
-        let said = said_of(rt.alloc(), Disk::Inbox(b""), input.as_slice())?;
-        assert!(rt;
-            said.as_slice() == b"a BAD not built\r\n* BYE bye\r\nb OK LOGOUT done\r\n".as_slice()
-        );
+        says(
+            &rt,
+            rt.alloc(),
+            Disk::Inbox(b""),
+            input.as_slice(),
+            b"a BAD not built\r\n* BYE bye\r\nb OK LOGOUT done\r\n",
+        )?;
     }
     Ok(())
 }

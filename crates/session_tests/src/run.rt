@@ -9,8 +9,6 @@ pub const ROOT: &str = "/m";
 /// What stands on the disk as a run begins.
 #[derive(Clone, Copy, Drop)]
 pub enum Disk<'a> {
-    /// Nothing at all.
-    Nothing,
     /// The root, which is empty.
     Root,
     /// The root with this file at INBOX.
@@ -29,7 +27,6 @@ pub fn host(
 ) -> Result<MemHost, AllocError> {
     let mut host = MemHost::new(alloc, input, cuts, fails)?;
     match disk {
-        Disk::Nothing => {}
         Disk::Root => host.put_dir("/m")?,
         Disk::Inbox(bytes) => host.put_file("/m/INBOX", bytes)?,
         Disk::InboxDirectory => host.put_dir("/m/INBOX")?,

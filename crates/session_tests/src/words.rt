@@ -1,6 +1,7 @@
 //! The words of the top call.
 use crate::run::{Disk, host, run_words};
 use imapd_core::Status;
+use mem_host::MemHost;
 use std::alloc::{AllocError, Global};
 use std::process::Abort;
 
@@ -38,20 +39,29 @@ fn refused(rt: &impl Abort, alloc: Global, shows: &str, words: &[&str]) -> Resul
     Ok(())
 }
 
-// Where nothing stands at a root of 1,024 bytes it is looked up, and one of 1,025 bytes isn't.
 #[test]
 fn a_root_has_at_most_1024_bytes(rt: HostRuntime) -> Result<(), AllocError> {
-    assert!(rt; calls_for(rt.alloc(), LONG)? == 1);
-    assert!(rt; calls_for(rt.alloc(), LONG + 1)? == 0);
+    let (status, said) = run_long(rt.alloc(), LONG)?;
+    assert!(rt; status == Status::Done);
+    assert!(rt;
+        said.as_slice()
+            == b"* PREAUTH [CAPABILITY IMAP4rev1] ready\r\n* BYE bye\r\na OK LOGOUT done\r\n".as_slice()
+    );
+    let (status, said) = run_long(rt.alloc(), LONG + 1)?;
+    assert!(rt; status == Status::Words);
+    assert!(rt; said.is_empty());
     Ok(())
 }
 
-fn calls_for(alloc: Global, length: usize) -> Result<u64, AllocError> {
-    let mut word = String::new(alloc);
-    for _ in 0..length {
-        word.push('x')?;
+// A run over a root of so many bytes, at which a directory stands.
+fn run_long(alloc: Global, length: usize) -> Result<(Status, Vec<u8>), AllocError> {
+    let mut root = String::from_str(alloc, "/")?;
+    for _ in 1..length {
+        root.push('x')?;
     }
-    let mut host = host(alloc, Disk::Root, b"", &[], &[])?;
-    let _status = run_words(alloc, &mut host, &[word.as_str()])?;
-    Ok(host.calls())
+    let mut host = MemHost::new(alloc, b"a LOGOUT\r\n", &[], &[])?;
+    host.put_dir(root.as_str())?;
+    let status = run_words(alloc, &mut host, &[root.as_str()])?;
+    let said = Vec::from_slice(alloc, host.said())?;
+    Ok((status, said))
 }
