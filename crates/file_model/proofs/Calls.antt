@@ -8,7 +8,7 @@ use Rattle.file_model.specs.declared.files.Failed.{Failed}
 use Rattle.file_model.specs.declared.files.Kind.{Kind}
 use Rattle.file_model.specs.declared.files.Kind.TheVariants.{File}
 use Rattle.file_model.specs.Disk.{Edit, wrote, shortened, FileState, MayStand, Disk, seen_names, seen, Call, make, write_at, cut, sync, rename, sync_dir, with_file, written, written_file, cut_file, synced_file, empty_file, renamed, all_done, after, AfterFailed}
-use Rattle.file_model.specs.Kept.{Keeps, Replaces, MayMake, IsHome, IsOwn, IsWritten, HasOnly, IsGone, NonePending, IsSound, Sees}
+use Rattle.file_model.specs.Kept.{Keeps, Replaces, ChangesTo, MayMake, IsHome, IsOwn, IsWritten, HasOnly, IsGone, NonePending, IsSound, Sees}
 use Rattle.file_model.specs.Histories.{History, Now, GoesOn, Ran, Ended}
 use Rattle.file_model.proofs.Names.{get-insert_same, get-insert_other, get-remove_other, cases_path, all_may_stand, all_durable}
 use Rattle.file_model.proofs.Kept.{keeps_refl, keeps_trans, keeps_make, may_make_file, may_make_none, keeps_edit, keeps_sync, keeps_sync_dir, replaces_rename, durable_rename, durable_gone, durable_all, same_number}
@@ -104,6 +104,9 @@ failed_keeps at call d e keeps failed = record { each = λ image left. ⊎_elim 
 
 failed_may_make : (path : List ℕ) (call : Call) (d e : Disk) → MayMake path d (after call d) → AfterFailed call d e → MayMake path d e
 failed_may_make path call d e makes failed = record { each = λ image left. ⊎_elim (λ was. (may_make_none path d).each image was) (λ is. makes.each image is) (failed.each image left) }
+
+pub failed_changes : (path : List ℕ) (node : Node) (call : Call) (d e : Disk) → ChangesTo path node d (after call d) → AfterFailed call d e → ChangesTo path node d e
+failed_changes path node call d e does failed = record { each = λ image left. ⊎_elim (λ was. (image, was, (λ q apart. refl), inl refl)) (λ is. does.each image is) (failed.each image left) }
 
 failed_replaces : (to bytes : List ℕ) (at : List ℕ → Type 0) (call : Call) (d e : Disk) → Replaces to bytes at d (after call d) → AfterFailed call d e → Replaces to bytes at d e
 failed_replaces to bytes at call d e does failed = record { each = λ image left. ⊎_elim (λ was. (image, was, (λ q here. refl), inl refl)) (λ is. does.each image is) (failed.each image left) }

@@ -9,7 +9,7 @@ use Rattle.file_model.specs.Histories.{World, History, Now, GoesOn, Ran, Ended}
 use Rattle.file_model.specs.Paths.{temporary_of}
 use Rattle.file_model.proofs.Names.{cases_path}
 use Rattle.file_model.proofs.Seen.{seen_leaves}
-use Rattle.file_model.proofs.Runs.{ran_call, all_append, all_weaker}
+use Rattle.file_model.proofs.Runs.{ran_call, all_append, all_weaker, told, none_added}
 
 one_file : (n m : Node) (b : List ℕ) → bytes_of n ≡ Some b → bytes_of m ≡ Some b → n ≡ m
 one_file n m b here there = shown n b here ∙ sym (shown m b there)
@@ -81,17 +81,17 @@ chained E start past (mid ∷ added) more one two =
 
 -- two runs each of whose instants has something that doesn't speak of a start
 pub ran_chain : (E : Disk → Type 0) (old mid new : History) → Ran (λ start instant. E instant) old mid → Ran (λ start instant. E instant) mid new → Ran (λ start instant. E instant) old new
-ran_chain E [] mid new one two = record { added = two.added ++ one.added; whole = two.whole ∙ ap (λ h. two.added ++ h) one.whole ∙ sym (append_assoc two.added one.added []); each = tt }
+ran_chain E [] mid new one two = record { added = two.added ++ one.added; whole = two.whole ∙ ap (λ h. two.added ++ h) one.whole ∙ sym (append_assoc two.added one.added []); each = none_added _ mid one.added two.added one.whole one.each two.each }
 ran_chain E (start ∷ past) mid new one two = record {
   added = two.added ++ one.added;
   whole = two.whole ∙ ap (λ h. two.added ++ h) one.whole ∙ sym (append_assoc two.added one.added (start ∷ past));
-  each = chained E start past one.added two.added one.each (subst (λ h. Now h (λ mid. AllByRecursion (λ w. (w.streams ≡ mid.streams) × E w.disk) two.added)) one.whole two.each);
+  each = chained E start past one.added two.added one.each (subst (λ h. Now h (λ mid. AllByRecursion (λ w. (w.streams ≡ mid.streams) × E w.disk) two.added)) one.whole (told _ mid two.added two.each));
 }
 
 -- a fact of the start turns a run's relation into a fact of each of its instants
 pub ran_from : (P : Disk → Type 0) (R : Disk → Disk → Type 0) (E : Disk → Type 0) → ((a b : Disk) → P a → R a b → E b) → (old new : History) → Now old (λ w. P w.disk) → Ran R old new
     → Ran (λ start instant. E instant) old new
-ran_from P R E on [] new now ran = record { added = ran.added; whole = ran.whole; each = tt }
+ran_from P R E on [] new now ran = record { added = ran.added; whole = ran.whole; each = ran.each }
 ran_from P R E on (w ∷ past) new now ran = record { added = ran.added; whole = ran.whole; each = all_weaker _ _ (λ world here. (here.0, on w.disk world.disk now here.1)) ran.added ran.each }
 
 -- a run's end stands to its start as each of its instants does

@@ -4,19 +4,20 @@ use Rattle.std.specs.List.{AllByRecursion}
 use Rattle.std.proofs.lemmas.List.{append-nil, take-append-drop}
 use Rattle.file_model.specs.declared.files.Failed.{Failed}
 use Rattle.file_model.specs.Disk.{Disk}
-use Rattle.file_model.specs.Histories.{World, History, Now, Ran, Ended, Passed, Says, saying, Hears, with_streams, with_turn}
+use Rattle.file_model.specs.Images.{Image}
+use Rattle.file_model.specs.Histories.{World, History, Now, instant, LeftSince, Ran, Ended, Passed, Says, saying, Hears, with_streams, with_turn}
 use Rattle.std.proofs.Math.Seq.{take-append-add}
 use Rattle.std.proofs.lemmas.List.Elements.{All-contains, All-from_recursion}
 use Rattle.std.specs.List.{Contains}
-use Rattle.file_model.specs.Arrived.{worlds_since, Arrived, Begins, IsSaying, HasSaid, HasHeard, given_bytes, gives_end}
-use Rattle.file_model.proofs.Runs.{all_append, all_weaker}
+use Rattle.file_model.specs.Arrived.{worlds_since, LeftBy, Arrived, Begins, IsSaying, HasSaid, HasHeard, given_bytes, gives_end}
+use Rattle.file_model.proofs.Runs.{all_append, all_weaker, none_added}
 
 pub passed_none : (R : World → World → Type 0) (history : History) → Passed R history history
-passed_none R [] = record { added = []; whole = refl; each = tt }
+passed_none R [] = record { added = []; whole = refl; each = refl }
 passed_none R (w ∷ past) = record { added = []; whole = refl; each = tt }
 
 pub passed_weaker : (R S : World → World → Type 0) → ((a b : World) → R a b → S a b) → (old new : History) → Passed R old new → Passed S old new
-passed_weaker R S weaker [] new run = record { added = run.added; whole = run.whole; each = tt }
+passed_weaker R S weaker [] new run = record { added = run.added; whole = run.whole; each = run.each }
 passed_weaker R S weaker (w ∷ past) new run = record { added = run.added; whole = run.whole; each = all_weaker (R w) (S w) (weaker w) run.added run.each }
 
 -- a run, and then another from where the first one leads
@@ -25,7 +26,7 @@ pub passed_then : (R E S T : World → World → Type 0) → ((a b : World) → 
 passed_then R E S T first then [] mid new one at two = record {
   added = two.added ++ one.added;
   whole = two.whole ∙ ap (λ h. two.added ++ h) one.whole ∙ sym (append_assoc two.added one.added []);
-  each = tt;
+  each = none_added _ mid one.added two.added one.whole one.each two.each;
 }
 passed_then R E S T first then (start ∷ past) [] new one at two = absurd at
 passed_then R E S T first then (start ∷ past) (mid ∷ more) new one at two = record {
@@ -73,7 +74,7 @@ said_part : (bytes : List ℕ) (w : World) (part : List ℕ) (surely : ℕ) → 
 said_part bytes w part surely begins = record { disk = refl; heard = refl; ended = refl; turns = refl; part = part; is_said = refl; is_part = begins }
 
 pub passed_say : (bytes : List ℕ) (result : Result (Unit {0}) Failed) (old new : History) → Says bytes result old new → Passed (IsSaying bytes) old new
-passed_say bytes result [] new says = record { added = []; whole = says; each = tt }
+passed_say bytes result [] new says = record { added = []; whole = says; each = refl }
 passed_say bytes (Ok u) (w ∷ past) new says = record {
   added = saying w bytes (length (w.streams.said ++ bytes)) ∷ saying w bytes (length w.streams.said) ∷ [];
   whole = says;
@@ -122,7 +123,7 @@ unheard_now : (w : World) → HasHeard [] false w (unheard_world w)
 unheard_now w = record { disk = refl; heard = sym (append-nil w.streams.heard); ended = or_false w.streams.ended; turns = refl; said = refl }
 
 pub passed_hear : (room : ℕ) (given : List ℕ) (result : Result ℕ Failed) (old new : History) → Hears room given result old new → Passed (HasHeard (given_bytes result given) (gives_end result room)) old new
-passed_hear room given result [] new hears = record { added = []; whole = hears; each = tt }
+passed_hear room given result [] new hears = record { added = []; whole = hears; each = refl }
 passed_hear room given (Ok n) (w ∷ past) new hears = record { added = heard_world room given (Ok n) w ∷ []; whole = hears; each = (heard_now room given (Ok n) w, tt) }
 passed_hear room given (Err e) (w ∷ past) new hears = record { added = unheard_world w ∷ []; whole = hears; each = (unheard_now w, tt) }
 
@@ -133,7 +134,7 @@ arrived_hear room given (Err e) (w ∷ past) new hears = subst (λ h. Arrived (H
 
 -- what holds at the start, at each instant of the run
 pub passed_now : (P : World → Type 0) (R S : World → World → Type 0) → ((a b : World) → P a → R a b → S a b) → (old new : History) → Now old P → Passed R old new → Passed S old new
-passed_now P R S weaker [] new now run = record { added = run.added; whole = run.whole; each = tt }
+passed_now P R S weaker [] new now run = record { added = run.added; whole = run.whole; each = run.each }
 passed_now P R S weaker (w ∷ past) new now run = record { added = run.added; whole = run.whole; each = all_weaker (R w) (S w) (λ b. weaker w b now) run.added run.each }
 
 -- the worlds that a run adds, and its start
@@ -149,6 +150,17 @@ each_since R start past new same run world among =
     All-contains (R start) (run.added ++ start ∷ []) world
     (All-from_recursion (R start) (run.added ++ start ∷ []) (all_append (R start) run.added (start ∷ []) run.each (same, tt)))
     (subst (λ l. Contains l world) (front run.added start past new run.whole) among)
+
+pub left_since : (R : World → World → Type 0) (start : World) (past new : List World) → R start start → Passed R (start ∷ past) new
+    → (image : Image) (said : List ℕ) → LeftSince (instant (start ∷ past)) new image said → LeftBy (R start) image said
+left_since R start past new same run image said left = record {
+  world = left.0;
+  holds = each_since R start past new same run left.0 left.1;
+  may_leave = left.2;
+  count = left.3.0;
+  surely = left.3.1;
+  is_said = left.3.2;
+}
 
 -- ---- Runs on files alone
 
@@ -169,5 +181,5 @@ ran_each R Q a holds (w ∷ added) all = (holds w all.0.0 all.0.1, ran_each R Q 
 
 -- a run on files alone says nothing
 pub ran_passed : (P : World → Type 0) (R : Disk → Disk → Type 0) (Q : World → World → Type 0) → ((a w : World) → P a → w.streams ≡ a.streams → R a.disk w.disk → Q a w) → (old new : History) → Now old P → Ran R old new → Passed Q old new
-ran_passed P R Q holds [] new now run = record { added = run.added; whole = run.whole; each = tt }
+ran_passed P R Q holds [] new now run = record { added = run.added; whole = run.whole; each = run.each }
 ran_passed P R Q holds (a ∷ past) new now run = record { added = run.added; whole = run.whole; each = ran_each R Q a (λ w. holds a w now) run.added run.each }

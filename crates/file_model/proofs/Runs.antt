@@ -3,7 +3,7 @@ use Rattle.std.proofs.Common.{◌≡◌, inl, inr, List, [], ◌∷◌, ◌++◌
 use Rattle.std.specs.List.{AllByRecursion}
 use Rattle.file_model.specs.declared.files.Failed.{Failed}
 use Rattle.file_model.specs.Disk.{Disk, Call, after, AfterFailed}
-use Rattle.file_model.specs.Histories.{World, History, Now, with_disk, GoesOn, Ran, Ended}
+use Rattle.file_model.specs.Histories.{World, History, Now, FromStart, with_disk, GoesOn, Ran, Ended}
 
 pub all_append : (P : World → Type 0) (xs ys : List World) → AllByRecursion P xs → AllByRecursion P ys → AllByRecursion P (xs ++ ys)
 all_append P [] ys first second = second
@@ -24,12 +24,25 @@ now_both P Q (w ∷ past) p q = (p, q)
 
 -- no call
 pub ran_none : (R : Disk → Disk → Type 0) (history : History) → Ran R history history
-ran_none R [] = record { added = []; whole = refl; each = tt }
+ran_none R [] = record { added = []; whole = refl; each = refl }
 ran_none R (w ∷ past) = record { added = []; whole = refl; each = tt }
 
 pub ran_weaker : {R S : Disk → Disk → Type 0} → ((a b : Disk) → R a b → S a b) → (old new : History) → Ran R old new → Ran S old new
-ran_weaker weaker [] new ran = record { added = ran.added; whole = ran.whole; each = tt }
+ran_weaker weaker [] new ran = record { added = ran.added; whole = ran.whole; each = ran.each }
 ran_weaker weaker (w ∷ past) new ran = record { added = ran.added; whole = ran.whole; each = all_weaker _ _ (λ world here. (here.0, weaker w.disk world.disk here.1)) ran.added ran.each }
+
+-- what is said of the start where it is told
+pub told : (P : World → Type 0) (history : History) (added : List World) → FromStart history added P → Now history P
+told P [] added from = tt
+told P (w ∷ past) added from = from
+
+-- where nothing is told two runs added nothing
+pub none_added : (P : World → Type 0) (mid : History) (one two : List World) → mid ≡ one ++ [] → one ≡ [] → FromStart mid two P → two ++ one ≡ []
+none_added P [] one two whole none from = ap (λ l. two ++ l) none ∙ ap (λ l. l ++ []) from
+none_added P (w ∷ past) one two whole none from = absurd (some (whole ∙ ap (λ l. l ++ []) none))
+  where
+    some : w ∷ past ≡ [] → ⊥
+    some e = cc
 
 -- a run and then another, whose instants stand in S to the first one's end
 joined : (R S T : Disk → Disk → Type 0) → ((a : Disk) → R a a) → ((a b : Disk) → R a b → T a b) → ((a b c : Disk) → R a b → S b c → T a c)
@@ -44,18 +57,18 @@ joined R S T same first then start past (mid ∷ added) more one two =
 
 pub ran_then : {R S T : Disk → Disk → Type 0} → ((a : Disk) → R a a) → ((a b : Disk) → R a b → T a b) → ((a b c : Disk) → R a b → S b c → T a c)
     → (old mid new : History) → Ran R old mid → Ran S mid new → Ran T old new
-ran_then same first then [] mid new one two = record { added = two.added ++ one.added; whole = two.whole ∙ ap (λ h. two.added ++ h) one.whole ∙ sym (append_assoc two.added one.added []); each = tt }
+ran_then same first then [] mid new one two = record { added = two.added ++ one.added; whole = two.whole ∙ ap (λ h. two.added ++ h) one.whole ∙ sym (append_assoc two.added one.added []); each = none_added _ mid one.added two.added one.whole one.each two.each }
 ran_then {R = R} {S = S} {T = T} same first then (start ∷ past) mid new one two = record {
   added = two.added ++ one.added;
   whole = two.whole ∙ ap (λ h. two.added ++ h) one.whole ∙ sym (append_assoc two.added one.added (start ∷ past));
-  each = joined R S T same first then start past one.added two.added one.each (subst (λ h. Now h (λ mid. AllByRecursion (λ w. (w.streams ≡ mid.streams) × S mid.disk w.disk) two.added)) one.whole two.each);
+  each = joined R S T same first then start past one.added two.added one.each (subst (λ h. Now h (λ mid. AllByRecursion (λ w. (w.streams ≡ mid.streams) × S mid.disk w.disk) two.added)) one.whole (told _ mid two.added two.each));
 }
 
 -- a call is a run of one instant, or where it failed of two or none
 pub ran_call : (P : Disk → Type 0) (R : Disk → Disk → Type 0) (call : Call)
     → ((d : Disk) → P d → R d (after call d)) → ((d e : Disk) → P d → AfterFailed call d e → R d e)
     → (result : Result (Unit {0}) Failed) (old new : History) → Now old (λ w. P w.disk) → GoesOn call result old new → Ran R old new
-ran_call P R call ok err result [] new now on = record { added = []; whole = on; each = tt }
+ran_call P R call ok err result [] new now on = record { added = []; whole = on; each = refl }
 ran_call P R call ok err (Ok u) (w ∷ past) new now on = record { added = with_disk w (after call w.disk) ∷ []; whole = on; each = ((refl, ok w.disk now), tt) }
 ran_call P R call ok err (Err e) (w ∷ past) new now (inl none) = record { added = []; whole = none; each = tt }
 ran_call P R call ok err (Err e) (w ∷ past) new now (inr on) = record {
@@ -98,5 +111,14 @@ pub ran_holds : (P : Disk → Type 0) (old mid new : History) → Ran (λ a b. P
 ran_holds P old mid new one two = ran_then (λ a p. p) (λ a b f. f) (λ a b c f g p. g (f p)) old mid new one two
 
 pub ran_known : (P Q : Disk → Type 0) (old new : History) → Now old (λ w. P w.disk) → Ran (λ a b. P a → Q b) old new → Ran (λ a b. Q b) old new
-ran_known P Q [] new now ran = record { added = ran.added; whole = ran.whole; each = tt }
+ran_known P Q [] new now ran = record { added = ran.added; whole = ran.whole; each = ran.each }
 ran_known P Q (w ∷ past) new now ran = record { added = ran.added; whole = ran.whole; each = all_weaker _ _ (λ world here. (here.0, here.1 now)) ran.added ran.each }
+
+-- a run's end stands to its start as each of its instants does
+pub ran_ended : (R : Disk → Disk → Type 0) → ((a : Disk) → R a a) → (old new : History) → Ran R old new → Ended R old new
+ran_ended R same [] new ran = ran.whole ∙ ap (λ l. l ++ []) ran.each
+ran_ended R same (start ∷ past) new ran = subst (Ended R (start ∷ past)) (sym ran.whole) (at ran.added ran.each)
+  where
+    at : (added : List World) → AllByRecursion (λ w. (w.streams ≡ start.streams) × R start.disk w.disk) added → Ended R (start ∷ past) (added ++ start ∷ past)
+    at [] each = same start.disk
+    at (w ∷ added) each = each.0.1

@@ -1,84 +1,45 @@
--- Each call leads from a sound disk to a sound one.
-use Rattle.std.proofs.Common.{◌≡◌, ◌≢◌, inl, inr, ⊎_elim, ℕ, ◌+◌, ◌-◌, ◌<◌, ◌≤◌, min, List, [], ◌∷◌, ◌++◌, length, take, drop, get_or, map, not, Bool, true, false, cond, Option, Some, None, refl, sym, ◌∙◌, ap, subst, arith, ◌==◌, T, ◌&&◌, length-append, length-take, length-drop, get_or-take}
+-- Each call that fits leads from a sound disk to a sound one.
+use Rattle.std.proofs.Common.{◌≡◌, ◌⊎◌, inl, inr, ⊎_elim, ℕ, ◌+◌, ◌-◌, ◌<◌, ◌≤◌, min, List, [], ◌∷◌, ◌++◌, length, take, drop, get_or, Bool, true, false, cond, Option, Some, None, refl, sym, ◌∙◌, ap, subst, arith, ◌==◌, ◌||◌, length-append, length-take, length-drop, get_or-take}
 use Rattle.std.proofs.Math.ListN.{get_or-append}
-use Rattle.std.specs.declared.cmp.Ordering.{Ordering}
-use Rattle.std.specs.declared.cmp.Ordering.TheVariants.{Less, Equal, Greater}
-use Rattle.std.specs.Ordering.{is_eq}
-use Rattle.std.proofs.lemmas.Map.Lookups.{exact_bytes}
-use Rattle.std.specs.Ordering.{eq_by_cmp, is_lt}
 use Rattle.std.proofs.Math.Seq.{get_or-append_right}
 use Rattle.std.proofs.lemmas.List.{get_or-drop}
-use Rattle.std.specs.List.{AllByRecursion}
-use Rattle.std.specs.FinMap.{get, insert, remove, retain_keys, entries, entries_sorted, get-entries, get-from_entries, get-retain_keys}
-use Rattle.std.specs.FinMap.Entries.{find, is_sorted, below_all}
-use Rattle.std.proofs.lemmas.Cmp.{nat_list_cmp_total}
-use Rattle.file_model.specs.Images.{Entry, a_file, a_directory, Names, path_cmp}
-use Rattle.file_model.specs.Disk.{FileState, IsPossible, Torn, DirectoryOperation, made, made_directory, moved_file, moved_directory, removed, is_at_or_inside, moved_path, done, MayStand, Disk, seen_names, Call, make, make_dir, write_at, cut, sync, rename, remove_at, sync_dir, with_file, with_operation, renamed, written, written_file, cut_file, synced_file, empty_file, after}
+use Rattle.std.specs.Str.{bytes_eq}
+use Rattle.std.proofs.lemmas.Slice.Eq.{bytes_eq-Decides}
+use Rattle.std.proofs.lemmas.Bool.{cases_Bool}
+use Rattle.std.specs.FinMap.{get}
+use Rattle.file_model.specs.Paths.{split_path, parent, is_top, is_inside, is_at_or_inside}
+use Rattle.file_model.specs.Images.{Entry, a_file, a_directory, Names, nothing, file, node_of, directory_test}
+use Rattle.file_model.specs.Kinds.{IsFile, CanMoveDirectory, IsEmptyDirectory, Fits}
+use Rattle.file_model.specs.Disk.{AreBytes, FileState, IsPossible, Torn, DirectoryOperation, made, made_directory, moved_file, moved_directory, removed, done, MayStand, Disk, seen_names, seen, Call, make, make_dir, write_at, cut, sync, rename, remove_at, sync_dir, with_file, with_operation, renamed, written, written_file, cut_file, synced_file, empty_file, after}
 use Rattle.file_model.specs.Kept.{IsSound}
-use Rattle.file_model.proofs.Names.{cases_path, get-insert_same, get-insert_other, get-remove_same, get-remove_other, same_path, other_path, all_may_stand, stood_before}
+use Rattle.file_model.proofs.Bytes.{bytes_written, bytes_possible}
+use Rattle.file_model.proofs.Inside.{inside_is, not_both}
+use Rattle.file_model.proofs.Moved.{Apart}
+use Rattle.file_model.proofs.Names.{all_may_stand, stood_before}
+use Rattle.file_model.proofs.NamesIn.{empty_childless}
+use Rattle.file_model.proofs.Orderly.{Orderly, Childless, file_childless, orderly_file, orderly_directory, orderly_remove, orderly_moved_file, above_stands, orderly_moved}
 
--- no name leads to a file of a number from next on
-abbrev pub Fresh : ℕ → Names → Type 0
-Fresh next names = (path : List ℕ) (id : ℕ) → get names path ≡ Some (a_file id) → id < next
+-- ---- What a node says of its entry
 
-id_of : Option Entry → ℕ
-id_of None = 0
-id_of (Some a_directory) = 0
-id_of (Some (a_file n)) = n
+pub no_entry : (bytes : ℕ → List ℕ) (e : Option Entry) → node_of bytes e ≡ nothing → e ≡ None
+no_entry bytes None is = refl
+no_entry bytes (Some a_directory) is = absurd (cc)
+no_entry bytes (Some (a_file id)) is = absurd (cc)
 
-pub fresh_insert : (next : ℕ) (names : Names) (path : List ℕ) (e : Entry) → ((id : ℕ) → e ≡ a_file id → id < next) → Fresh next names → Fresh next (insert names path e)
-fresh_insert next names path e new old q id there = elim (cases_path q path) [
-  | inl same ↦ new id (some_is (sym (get-insert_same names path e) ∙ ap (get (insert names path e)) (sym same) ∙ there))
-  | inr apart ↦ old q id (sym (get-insert_other names path e q apart) ∙ there)
-]
-  where
-    some_is : Some e ≡ Some (a_file id) → e ≡ a_file id
-    some_is h = cc
+pub directory_entry : (bytes : ℕ → List ℕ) (e : Option Entry) → directory_test (node_of bytes e) ≡ true → e ≡ Some a_directory
+directory_entry bytes None is = absurd (cc)
+directory_entry bytes (Some a_directory) is = refl
+directory_entry bytes (Some (a_file id)) is = absurd (cc)
 
-fresh_remove : (next : ℕ) (names : Names) (path : List ℕ) → Fresh next names → Fresh next (remove names path)
-fresh_remove next names path old q id there = elim (cases_path q path) [
-  | inl same ↦ absurd (none_some (sym (get-remove_same names path) ∙ ap (get (remove names path)) (sym same) ∙ there))
-  | inr apart ↦ old q id (sym (get-remove_other names path q apart) ∙ there)
-]
-  where
-    none_some : None ≡ Some (a_file id) → ⊥
-    none_some h = cc
+pub file_at : (bytes : ℕ → List ℕ) (e : Option Entry) (b : List ℕ) → node_of bytes e ≡ file b → (id : ℕ) × (e ≡ Some (a_file id))
+file_at bytes None b is = absurd (cc)
+file_at bytes (Some a_directory) b is = absurd (cc)
+file_at bytes (Some (a_file id)) b is = (id, refl)
 
--- each file stands at one path
-abbrev pub Alone : Names → Type 0
-Alone names = (path other : List ℕ) (id : ℕ) → get names path ≡ Some (a_file id) → get names other ≡ Some (a_file id) → other ≡ path
+pub no_directory : (bytes : ℕ → List ℕ) (e : Option Entry) → directory_test (node_of bytes e) ≡ false → e ≡ Some a_directory → ⊥
+no_directory bytes e is same = not_both (directory_test (node_of bytes e)) (ap (λ x. directory_test (node_of bytes x)) same) is
 
--- a name that leads to a file which stands nowhere else
-pub alone_insert : (names : Names) (path : List ℕ) (e : Entry) → ((id : ℕ) → e ≡ a_file id → (other : List ℕ) → other ≢ path → get names other ≡ Some (a_file id) → ⊥) → Alone names → Alone (insert names path e)
-alone_insert names path e new old p q id there also = elim (cases_path p path) [
-  | inl one ↦ elim (cases_path q path) [
-    | inl other ↦ other ∙ sym one
-    | inr apart ↦ absurd (new id (some_is (sym (get-insert_same names path e) ∙ ap (get (insert names path e)) (sym one) ∙ there)) q apart (sym (get-insert_other names path e q apart) ∙ also))
-  ]
-  | inr far ↦ elim (cases_path q path) [
-    | inl other ↦ absurd (new id (some_is (sym (get-insert_same names path e) ∙ ap (get (insert names path e)) (sym other) ∙ also)) p far (sym (get-insert_other names path e p far) ∙ there))
-    | inr apart ↦ old p q id (sym (get-insert_other names path e p far) ∙ there) (sym (get-insert_other names path e q apart) ∙ also)
-  ]
-]
-  where
-    some_is : Some e ≡ Some (a_file id) → e ≡ a_file id
-    some_is h = cc
-
--- what stands after a removal stood before
-removed_was : (names : Names) (path q : List ℕ) (id : ℕ) → get (remove names path) q ≡ Some (a_file id) → get names q ≡ Some (a_file id)
-removed_was names path q id there = elim (cases_path q path) [
-  | inl same ↦ absurd (none_some (sym (get-remove_same names path) ∙ ap (get (remove names path)) (sym same) ∙ there))
-  | inr apart ↦ sym (get-remove_other names path q apart) ∙ there
-]
-  where
-    none_some : None ≡ Some (a_file id) → ⊥
-    none_some h = cc
-
-alone_remove : (names : Names) (path : List ℕ) → Alone names → Alone (remove names path)
-alone_remove names path old p q id there also = old p q id (removed_was names path p id there) (removed_was names path q id also)
-
-fresh_more : (next : ℕ) (names : Names) → Fresh next names → Fresh (next + 1) names
-fresh_more next names old q id there = let below = old q id there in omega arith
+-- ---- The bytes of files
 
 length_written : (place : ℕ) (bytes old : List ℕ) → length (written place bytes old) ≡ min place (length old) + length bytes + (length old - (place + length bytes))
 length_written place bytes old =
@@ -87,8 +48,9 @@ length_written place bytes old =
     ∙ ap (λ n. min place (length old) + length bytes + n) (length-drop (place + length bytes) old)
 
 -- what a write may leave holds what it wrote
-pub torn_written : (place : ℕ) (bytes old : List ℕ) → Torn place (length bytes) old (written place bytes old)
-torn_written place bytes old = record {
+pub torn_written : (place : ℕ) (bytes old : List ℕ) → AreBytes bytes → Torn place (length bytes) old (written place bytes old)
+torn_written place bytes old all = record {
+  any = bytes_written place bytes old all;
   same = λ k below apart. ⊎_elim (early k below) (late k below) apart;
   no_shorter = omega (arith, length_written place bytes old);
   no_longer = omega (arith, length_written place bytes old);
@@ -114,168 +76,126 @@ edited_possible : (f g : FileState) (b : Bool) → IsPossible f.durable f.edits 
 edited_possible f g true old new = new
 edited_possible f g false old new = old
 
-changed_sound : (change : FileState → FileState) → ((f : FileState) → IsPossible f.durable f.edits f.seen → IsPossible (change f).durable (change f).edits (change f).seen)
-    → (e : Option Entry) (disk : Disk) → IsSound disk → IsSound (with_file change e disk)
+edited_bytes : (f g : FileState) (b : Bool) → AreBytes f.durable → AreBytes g.durable → AreBytes (cond b g f).durable
+edited_bytes f g true old new = new
+edited_bytes f g false old new = old
+
+-- a file's content is possible, and has bytes
+record IsWell (f : FileState) : Type 0 where
+  possible : IsPossible f.durable f.edits f.seen
+  bytes : AreBytes f.durable
+
+changed_sound : (change : FileState → FileState) → ((f : FileState) → IsWell f → IsWell (change f)) → (e : Option Entry) (disk : Disk) → IsSound disk → IsSound (with_file change e disk)
 changed_sound change keeps None disk sound = sound
 changed_sound change keeps (Some a_directory) disk sound = sound
 changed_sound change keeps (Some (a_file id)) disk sound = record {
   fresh = sound.fresh;
   alone = sound.alone;
-  possible = λ n. edited_possible (disk.files n) (change (disk.files n)) (n == id) (sound.possible n) (keeps (disk.files n) (sound.possible n));
+  rooted = sound.rooted;
+  possible = λ n. edited_possible (disk.files n) (change (disk.files n)) (n == id) (sound.possible n) (keeps (disk.files n) (well n)).possible;
+  are_bytes = λ n. edited_bytes (disk.files n) (change (disk.files n)) (n == id) (sound.are_bytes n) (keeps (disk.files n) (well n)).bytes;
 }
-
-not_both : (o : Ordering) → is_eq o ≡ true → T (is_lt o) → ⊥
-not_both Less e less = cc
-not_both Equal e less = less
-not_both Greater e less = less
-
-less_apart : (x y : List ℕ) → T (is_lt (path_cmp x y)) → eq_by_cmp path_cmp y x ≡ false
-less_apart x y less = other_path x y (λ same. not_both (path_cmp x x) (same_path x) (subst (λ z. T (is_lt (path_cmp x z))) same less))
-
-split_and : (a b : Bool) → T (a && b) → T a × T b
-split_and true b h = (tt, h)
-split_and false b h = absurd h
-
-found_behind : (x : List ℕ × Entry) (xs ys : List (List ℕ × Entry)) → T (below_all path_cmp x.0 ys) → AllByRecursion (λ e. find path_cmp e.0 xs ≡ Some e.1) ys → AllByRecursion (λ e. find path_cmp e.0 (x ∷ xs) ≡ Some e.1) ys
-found_behind x xs [] below all = tt
-found_behind x xs (y ∷ ys) below all =
-    let parts = split_and (is_lt (path_cmp x.0 y.0)) (below_all path_cmp x.0 ys) below in
-    (ap (λ b. cond b (Some x.1) (find path_cmp y.0 xs)) (less_apart x.0 y.0 parts.0) ∙ all.0, found_behind x xs ys parts.1 all.1)
-
--- each entry of a list in order is found under its key
-entries_found : (es : List (List ℕ × Entry)) → T (is_sorted path_cmp es) → AllByRecursion (λ e. find path_cmp e.0 es ≡ Some e.1) es
-entries_found [] in_order = tt
-entries_found (x ∷ xs) in_order =
-    let parts = split_and (below_all path_cmp x.0 xs) (is_sorted path_cmp xs) in_order in
-    (ap (λ b. cond b (Some x.1) (find path_cmp x.0 xs)) (same_path x.0), found_behind x xs xs parts.0 (entries_found xs parts.1))
-
--- moving keys gives no new values
-found_moved : (f : List ℕ → List ℕ) (next : ℕ) (all es : List (List ℕ × Entry)) → AllByRecursion (λ e. find path_cmp e.0 all ≡ Some e.1) es
-    → ((path : List ℕ) (id : ℕ) → find path_cmp path all ≡ Some (a_file id) → id < next)
-    → (q : List ℕ) (id : ℕ) → find path_cmp q (map (λ e. (f e.0, e.1)) es) ≡ Some (a_file id) → id < next
-found_moved f next all [] here old q id there = absurd (cc)
-found_moved f next all (e ∷ es) here old q id there = at (found_moved f next all es here.1 old q id) (eq_by_cmp path_cmp q (f e.0)) there
   where
-    at : (find path_cmp q (map (λ e. (f e.0, e.1)) es) ≡ Some (a_file id) → id < next) → (b : Bool) → cond b (Some e.1) (find path_cmp q (map (λ e. (f e.0, e.1)) es)) ≡ Some (a_file id) → id < next
-    at rest true is = old e.0 id (here.0 ∙ is)
-    at rest false is = rest is
+    well : (n : ℕ) → IsWell (disk.files n)
+    well n = record { possible = sound.possible n; bytes = sound.are_bytes n }
 
-fresh_moved : (from to : List ℕ) (next : ℕ) (names : Names) → Fresh next names → Fresh next (done (moved_directory from to) names)
-fresh_moved from to next names old q id there =
-    let kept = retain_keys names (λ path. not (is_at_or_inside to path)) in
-    let old_kept : (path : List ℕ) (id : ℕ) → find path_cmp path (entries kept) ≡ Some (a_file id) → id < next =
-    λ path id is. old path id (kept_was path (not (is_at_or_inside to path)) (a_file id)
-    (sym (get-retain_keys names (λ path. not (is_at_or_inside to path)) path (λ x tied. ap (λ z. not (is_at_or_inside to z)) (sym (exact_bytes path x tied)))) ∙ get-entries kept path ∙ is)) in
-    found_moved (moved_path from to) next (entries kept) (entries kept) (entries_found (entries kept) (entries_sorted kept)) old_kept q id
-    (sym (get-from_entries nat_list_cmp_total (map (λ e. (moved_path from to e.0, e.1)) (entries kept)) q) ∙ there)
+-- ---- The names
+
+pub names_orderly : (disk : Disk) → IsSound disk → (names : Names) → MayStand disk.durable disk.pending names → Orderly disk.next names
+names_orderly disk sound names may = record { fresh = sound.fresh names may; alone = sound.alone names may; rooted = sound.rooted names may }
+
+pub seen_orderly : (disk : Disk) → IsSound disk → Orderly disk.next (seen_names disk)
+seen_orderly disk sound = names_orderly disk sound (seen_names disk) (all_may_stand disk.durable disk.pending)
+
+operation_sound : (call : DirectoryOperation) (disk : Disk) → Orderly disk.next (done call (seen_names disk)) → IsSound disk → IsSound (with_operation call disk)
+operation_sound call disk new sound = record {
+  fresh = λ names may. (all names may).fresh;
+  alone = λ names may. (all names may).alone;
+  rooted = λ names may. (all names may).rooted;
+  possible = sound.possible;
+  are_bytes = sound.are_bytes;
+}
   where
-    kept_was : (path : List ℕ) (b : Bool) (e : Entry) → cond b (get names path) None ≡ Some e → get names path ≡ Some e
-    kept_was path true e is = is
-    kept_was path false e is = absurd (cc)
+    all : (names : Names) → MayStand disk.durable (call ∷ disk.pending) names → Orderly disk.next names
+    all names (inl last) = subst (Orderly disk.next) (sym last) new
+    all names (inr earlier) = names_orderly disk sound names earlier
 
--- what is found where the keys moved was found at some key that moved there
-moved_from : (f : List ℕ → List ℕ) (all es : List (List ℕ × Entry)) → AllByRecursion (λ e. find path_cmp e.0 all ≡ Some e.1) es
-    → (q : List ℕ) (id : ℕ) → find path_cmp q (map (λ e. (f e.0, e.1)) es) ≡ Some (a_file id) → (path : List ℕ) × (q ≡ f path) × (find path_cmp path all ≡ Some (a_file id))
-moved_from f all [] here q id there = absurd (cc)
-moved_from f all (e ∷ es) here q id there = elim (cases_path q (f e.0)) [
-  | inl same ↦ (e.0, same, here.0 ∙ first (eq_by_cmp path_cmp q (f e.0)) (ap (λ z. eq_by_cmp path_cmp z (f e.0)) same ∙ same_path (f e.0)) there)
-  | inr apart ↦ moved_from f all es here.1 q id (later (eq_by_cmp path_cmp q (f e.0)) (other_path (f e.0) q apart) there)
-]
+-- where nothing stands, nothing stands inside
+pub free_apart : (disk : Disk) (from to : List ℕ) → IsSound disk → CanMoveDirectory (seen disk) from to → Apart from to
+unfolding split_path
+free_apart disk from to sound can = (neither from to (bytes_eq-Decides from to).0 can.outside, neither to from (λ same. sym ((bytes_eq-Decides to from).0 same)) none_inside)
   where
-    first : (b : Bool) → b ≡ true → cond b (Some e.1) (find path_cmp q (map (λ e. (f e.0, e.1)) es)) ≡ Some (a_file id) → Some e.1 ≡ Some (a_file id)
-    first true holds is = is
-    first false holds is = absurd (cc)
+    from_stands : get (seen_names disk) from ≡ Some a_directory
+    from_stands = directory_entry (seen disk).bytes (get (seen_names disk) from) can.is_there
 
-    later : (b : Bool) → b ≡ false → cond b (Some e.1) (find path_cmp q (map (λ e. (f e.0, e.1)) es)) ≡ Some (a_file id) → find path_cmp q (map (λ e. (f e.0, e.1)) es) ≡ Some (a_file id)
-    later true fails is = absurd (cc)
-    later false fails is = is
+    to_free : get (seen_names disk) to ≡ None
+    to_free = no_entry (seen disk).bytes (get (seen_names disk) to) can.target.free.nothing_there
 
--- a directory that moves takes its files with it, each to one path
-alone_moved : (from to : List ℕ) (names : Names) → Alone names → Alone (done (moved_directory from to) names)
-alone_moved from to names old p q id there also =
-    let one = came p id there in
-    let other = came q id also in
-    other.1 ∙ ap (moved_path from to) (old one.0 other.0 id one.2 other.2) ∙ sym one.1
-  where
-    kept_was : (path : List ℕ) (b : Bool) (e : Entry) → cond b (get names path) None ≡ Some e → get names path ≡ Some e
-    kept_was path true e is = is
-    kept_was path false e is = absurd (cc)
+    different : Some a_directory ≡ None → ⊥
+    different e = cc
 
-    came : (q : List ℕ) (id : ℕ) → get (done (moved_directory from to) names) q ≡ Some (a_file id) → (path : List ℕ) × (q ≡ moved_path from to path) × (get names path ≡ Some (a_file id))
-    came q id there =
-        let kept = retain_keys names (λ path. not (is_at_or_inside to path)) in
-        let at = moved_from (moved_path from to) (entries kept) (entries kept) (entries_found (entries kept) (entries_sorted kept)) q id
-        (sym (get-from_entries nat_list_cmp_total (map (λ e. (moved_path from to e.0, e.1)) (entries kept)) q) ∙ there) in (
-          at.0,
-          at.1,
-          kept_was at.0 (not (is_at_or_inside to at.0)) (a_file id)
-              (sym (get-retain_keys names (λ path. not (is_at_or_inside to path)) at.0 (λ x tied. ap (λ z. not (is_at_or_inside to z)) (sym (exact_bytes at.0 x tied)))) ∙ get-entries kept at.0 ∙ at.2),
-        )
+    neither : (one other : List ℕ) → (bytes_eq one other ≡ true → from ≡ to) → is_inside one other ≡ false → is_at_or_inside one other ≡ false
+    neither one other same outside = at (bytes_eq one other) refl
+      where
+        at : (b : Bool) → bytes_eq one other ≡ b → (b || is_inside one other) ≡ false
+        at false apart = outside
+        at true is = absurd (different (sym from_stands ∙ ap (get (seen_names disk)) (same is) ∙ to_free))
 
-with_call_sound : (call : DirectoryOperation) (disk : Disk) → Fresh disk.next (done call (seen_names disk)) → Alone (done call (seen_names disk)) → IsSound disk → IsSound (with_operation call disk)
-with_call_sound call disk new lone sound = record { fresh = fresh; alone = alone; possible = sound.possible }
-  where
-    alone : (names : Names) → MayStand disk.durable (call ∷ disk.pending) names → Alone names
-    alone names (inl all) = subst Alone (sym all) lone
-    alone names (inr earlier) = sound.alone names earlier
+    none_inside : is_inside to from ≡ false
+    none_inside = ⊎_elim (λ is. absurd (inside is)) (λ fails. fails) (cases_Bool (is_inside to from))
+      where
+        inside : is_inside to from ≡ true → ⊥
+        inside is =
+            let w = inside_is to from is in
+            different (sym (above_stands w.0 (seen_names disk) to w.0 a_directory (omega arith) (λ none. top none) (seen_orderly disk sound).rooted (ap (get (seen_names disk)) (sym w.1) ∙ from_stands)) ∙ to_free)
+          where
+            top : to ≡ [] → ⊥
+            top none = not_both (is_top to) (ap is_top none) can.target.free.below
 
-    fresh : (names : Names) → MayStand disk.durable (call ∷ disk.pending) names → Fresh disk.next names
-    fresh names (inl all) path id there = new path id (ap (λ m. get m path) (sym all) ∙ there)
-    fresh names (inr earlier) path id there = sound.fresh names earlier path id there
+renamed_sound : (from to : List ℕ) (disk : Disk) (e : Option Entry) → get (seen_names disk) from ≡ e → Fits (rename from to) (seen disk) → IsSound disk → IsSound (with_operation (renamed from to e) disk)
+renamed_sound from to disk e is (inl can) sound =
+    let stands = file_at (seen disk).bytes (get (seen_names disk) from) can.0.is_file.0 can.0.is_file.1 in
+    subst (λ x. IsSound (with_operation (renamed from to x) disk)) (sym stands.1 ∙ is) (operation_sound (moved_file from to stands.0) disk
+    (orderly_moved_file disk.next (seen_names disk) from to stands.0 stands.1 (no_directory (seen disk).bytes (get (seen_names disk) to) can.1)
+    (directory_entry (seen disk).bytes (get (seen_names disk) (parent to)) can.0.room) (seen_orderly disk sound)) sound)
+renamed_sound from to disk e is (inr can) sound =
+    let stands = directory_entry (seen disk).bytes (get (seen_names disk) from) can.is_there in
+    subst (λ x. IsSound (with_operation (renamed from to x) disk)) (sym stands ∙ is) (operation_sound (moved_directory from to) disk
+    (orderly_moved disk.next (seen_names disk) from to (free_apart disk from to sound can) (seen_orderly disk sound) stands
+    (directory_entry (seen disk).bytes (get (seen_names disk) (parent to)) can.target.free.room) can.target.free.below) sound)
 
-seen_fresh : (disk : Disk) → IsSound disk → Fresh disk.next (seen_names disk)
-seen_fresh disk sound = sound.fresh (seen_names disk) (all_may_stand disk.durable disk.pending)
-
-seen_alone : (disk : Disk) → IsSound disk → Alone (seen_names disk)
-seen_alone disk sound = sound.alone (seen_names disk) (all_may_stand disk.durable disk.pending)
-
-renamed_sound : (from to : List ℕ) (disk : Disk) (e : Option Entry) → get (seen_names disk) from ≡ e → IsSound disk → IsSound (with_operation (renamed from to e) disk)
-renamed_sound from to disk None is sound = with_call_sound (moved_directory from to) disk (fresh_moved from to disk.next (seen_names disk) (seen_fresh disk sound)) (alone_moved from to (seen_names disk) (seen_alone disk sound)) sound
-renamed_sound from to disk (Some a_directory) is sound = with_call_sound (moved_directory from to) disk (fresh_moved from to disk.next (seen_names disk) (seen_fresh disk sound)) (alone_moved from to (seen_names disk) (seen_alone disk sound)) sound
-renamed_sound from to disk (Some (a_file id)) is sound =
-    with_call_sound (moved_file from to id) disk (fresh_insert disk.next (remove (seen_names disk) from) to (a_file id) same (fresh_remove disk.next (seen_names disk) from (seen_fresh disk sound)))
-    (alone_insert (remove (seen_names disk) from) to (a_file id) left (alone_remove (seen_names disk) from (seen_alone disk sound))) sound
-  where
-    gone : None ≡ Some (a_file id) → ⊥
-    gone h = cc
-
-    left : (n : ℕ) → a_file id ≡ a_file n → (other : List ℕ) → other ≢ to → get (remove (seen_names disk) from) other ≡ Some (a_file n) → ⊥
-    left n e other apart there =
-        let eq : id ≡ n = cc in
-        let was = subst (λ k. get (remove (seen_names disk) from) other ≡ Some (a_file k)) (sym eq) there in
-        let here : other ≡ from = seen_alone disk sound from other id is (removed_was (seen_names disk) from other id was) in
-        gone (sym (get-remove_same (seen_names disk) from) ∙ ap (get (remove (seen_names disk) from)) (sym here) ∙ was)
-
-    same : (n : ℕ) → a_file id ≡ a_file n → n < disk.next
-    same n e = let eq : id ≡ n = cc in subst (λ k. k < disk.next) eq (seen_fresh disk sound from id is)
-
-pub sound_after : (call : Call) (disk : Disk) → IsSound disk → IsSound (after call disk)
-sound_after (make path) disk sound = record {
-  fresh = fresh;
-  alone = alone;
+pub sound_after : (call : Call) (disk : Disk) → Fits call (seen disk) → IsSound disk → IsSound (after call disk)
+sound_after (make path) disk fits sound = record {
+  fresh = λ names may. (all names may).fresh;
+  alone = λ names may. (all names may).alone;
+  rooted = λ names may. (all names may).rooted;
   possible = λ n. edited_possible (disk.files n) empty_file (n == disk.next) (sound.possible n) refl;
+  are_bytes = λ n. edited_bytes (disk.files n) empty_file (n == disk.next) (sound.are_bytes n) (λ k below. absurd (omega arith));
 }
   where
-    unused : (n : ℕ) → a_file disk.next ≡ a_file n → (other : List ℕ) → other ≢ path → get (seen_names disk) other ≡ Some (a_file n) → ⊥
-    unused n e other apart there = let eq : disk.next ≡ n = cc in let below = seen_fresh disk sound other n there in omega (arith, eq)
+    more : (names : Names) → Orderly disk.next names → Orderly (disk.next + 1) names
+    more names o = record { fresh = λ q id there. let below = o.fresh q id there in omega arith; alone = o.alone; rooted = o.rooted }
 
-    alone : (names : Names) → MayStand disk.durable (made path disk.next ∷ disk.pending) names → Alone names
-    alone names (inr earlier) = sound.alone names earlier
-    alone names (inl all) = subst Alone (sym all) (alone_insert (seen_names disk) path (a_file disk.next) unused (seen_alone disk sound))
-
-    fresh : (names : Names) → MayStand disk.durable (made path disk.next ∷ disk.pending) names → Fresh (disk.next + 1) names
-    fresh names (inr earlier) q id there = fresh_more disk.next names (sound.fresh names earlier) q id there
-    fresh names (inl all) q id there =
-        fresh_insert (disk.next + 1) (seen_names disk) path (a_file disk.next) (λ n e. let eq : disk.next ≡ n = cc in omega arith)
-        (fresh_more disk.next (seen_names disk) (seen_fresh disk sound)) q id (ap (λ m. get m q) (sym all) ∙ there)
-sound_after (make_dir path) disk sound = with_call_sound (made_directory path) disk (fresh_insert disk.next (seen_names disk) path a_directory (λ n e. absurd (cc)) (seen_fresh disk sound)) (alone_insert (seen_names disk) path a_directory (λ n e. absurd (cc)) (seen_alone disk sound)) sound
-sound_after (write_at path place bytes) disk sound = changed_sound (written_file place bytes) (λ f was. (f.seen, was, torn_written place bytes f.seen)) (get (seen_names disk) path) disk sound
-sound_after (cut path l) disk sound = changed_sound (cut_file l) (λ f was. (f.seen, was, inr refl)) (get (seen_names disk) path) disk sound
-sound_after (sync path) disk sound = changed_sound synced_file (λ f was. refl) (get (seen_names disk) path) disk sound
-sound_after (rename from to) disk sound = renamed_sound from to disk (get (seen_names disk) from) refl sound
-sound_after (remove_at path) disk sound = with_call_sound (removed path) disk (fresh_remove disk.next (seen_names disk) path (seen_fresh disk sound)) (alone_remove (seen_names disk) path (seen_alone disk sound)) sound
-sound_after (sync_dir dir) disk sound = record {
+    all : (names : Names) → MayStand disk.durable (made path disk.next ∷ disk.pending) names → Orderly (disk.next + 1) names
+    all names (inr earlier) = more names (names_orderly disk sound names earlier)
+    all names (inl last) = subst (Orderly (disk.next + 1)) (sym last) (orderly_file disk.next (seen_names disk) path
+        (λ below. directory_entry (seen disk).bytes (get (seen_names disk) (parent path)) fits.room)
+        (no_directory (seen disk).bytes (get (seen_names disk) path) (ap directory_test fits.nothing_there)) (seen_orderly disk sound))
+sound_after (make_dir path) disk fits sound = operation_sound (made_directory path) disk
+    (orderly_directory disk.next (seen_names disk) path (λ below. directory_entry (seen disk).bytes (get (seen_names disk) (parent path)) fits.free.room) (seen_orderly disk sound)) sound
+sound_after (write_at path place bytes) disk fits sound = changed_sound (written_file place bytes) (λ f well. record { possible = (f.seen, well.possible, torn_written place bytes f.seen fits.1); bytes = well.bytes }) (get (seen_names disk) path) disk sound
+sound_after (cut path l) disk fits sound = changed_sound (cut_file l) (λ f well. record { possible = (f.seen, well.possible, inr refl); bytes = well.bytes }) (get (seen_names disk) path) disk sound
+sound_after (sync path) disk fits sound = changed_sound synced_file (λ f well. record { possible = refl; bytes = bytes_possible f.durable f.edits f.seen well.bytes well.possible }) (get (seen_names disk) path) disk sound
+sound_after (rename from to) disk fits sound = renamed_sound from to disk (get (seen_names disk) from) refl fits sound
+sound_after (remove_at path) disk fits sound = operation_sound (removed path) disk (orderly_remove disk.next (seen_names disk) path (empty fits) (seen_orderly disk sound)) sound
+  where
+    empty : IsFile (seen disk) path 0 ⊎ IsEmptyDirectory (seen disk) path → Childless (seen_names disk) path
+    empty (inl is) = let stands = file_at (seen disk).bytes (get (seen_names disk) path) is.0 is.1 in file_childless (seen_names disk) path stands.0 stands.1 (seen_orderly disk sound).rooted
+    empty (inr is) = empty_childless (seen disk) path is.empty
+sound_after (sync_dir dir) disk fits sound = record {
   fresh = λ names may. sound.fresh names (stood_before dir disk.durable disk.pending names may);
   alone = λ names may. sound.alone names (stood_before dir disk.durable disk.pending names may);
+  rooted = λ names may. sound.rooted names (stood_before dir disk.durable disk.pending names may);
   possible = sound.possible;
+  are_bytes = sound.are_bytes;
 }

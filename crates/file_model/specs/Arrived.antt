@@ -1,6 +1,8 @@
 -- Where a run leads, and what came since its start.
-use Rattle.std.specs.Prelude.{ℕ, Bool, List, [], ◌∷◌, ◌++◌, ◌≡◌, ◌||◌, ◌&&◌, ◌+◌, ◌-◌, ◌==◌, nat_lt, length, drop, take, Result, Ok, Err, false}
+use Rattle.std.specs.Prelude.{ℕ, Bool, List, [], ◌∷◌, ◌++◌, ◌≡◌, ◌||◌, ◌&&◌, ◌+◌, ◌-◌, ◌==◌, nat_lt, ◌≤◌, length, drop, take, Result, Ok, Err, false}
 use Rattle.file_model.specs.declared.files.Failed.{Failed}
+use Rattle.file_model.specs.Images.{Image}
+use Rattle.file_model.specs.Disk.{MayLeave}
 use Rattle.file_model.specs.Histories.{World, History}
 
 -- the world at the end stands in R to the world at the start
@@ -12,6 +14,15 @@ Arrived R (start ∷ past) (end ∷ more) = R start end
 -- the worlds since an instant, that of the instant too
 abbrev pub worlds_since : ℕ → History → List World
 worlds_since start history = take (length history + 1 - start) history
+
+-- A crash at an instant might have left this image and found these bytes said, and P holds there.
+pub record LeftBy (P : World → Type 0) (image : Image) (said : List ℕ) : Type 0 where
+  pub world : World
+  pub holds : P world
+  pub may_leave : MayLeave world.disk image
+  pub count : ℕ
+  pub surely : world.streams.surely_said ≤ count
+  pub is_said : said ≡ take count world.streams.said
 
 -- the bytes heard since a world
 abbrev pub heard_since : World → World → List ℕ

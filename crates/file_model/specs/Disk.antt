@@ -2,7 +2,7 @@
 use Rattle.std.specs.Prelude.{ℕ, Bool, List, [], ◌∷◌, ◌++◌, ◌+◌, ◌<◌, ◌≤◌, ◌==◌, ◌||◌, ◌≡◌, ◌⊎◌, not, max, Option, Some, None, if◌then◌else◌, take, drop, length, map, slice_index}
 use Rattle.std.specs.Str.{bytes_eq}
 use Rattle.std.specs.FinMap.{get, insert, remove, retain_keys, from_entries, entries}
-use Rattle.file_model.specs.Paths.{parent, is_inside}
+use Rattle.file_model.specs.Paths.{parent, is_at_or_inside}
 use Rattle.file_model.specs.Images.{Entry, a_file, a_directory, Names, Image}
 
 -- ---- Contents
@@ -18,9 +18,14 @@ pub record FileState : Type 0 where
   pub durable : List ℕ
   pub edits : List Edit
 
--- A write of n bytes at a place, cut short: outside its range the old bytes stay, up to the old end. All other bytes are any.
+-- the list has bytes alone
+abbrev pub AreBytes : List ℕ → Type 0
+AreBytes bytes = (k : ℕ) → k < length bytes → slice_index bytes k < 256
+
+-- A write of n bytes at a place, cut short: outside its range the old bytes stay, up to the old end. The others are any bytes.
 pub record Torn (place n : ℕ) (old new : List ℕ) : Type 0 where
   pub same : (k : ℕ) → k < length old → (k < place) ⊎ (place + n ≤ k) → slice_index new k ≡ slice_index old k
+  pub any : AreBytes old → AreBytes new
   pub no_shorter : length old ≤ length new
   pub no_longer : length new ≤ max (length old) (place + n)
 
@@ -42,9 +47,6 @@ pub data DirectoryOperation : Type 0 where
   moved_file : List ℕ → List ℕ → ℕ → DirectoryOperation
   moved_directory : List ℕ → List ℕ → DirectoryOperation
   removed : List ℕ → DirectoryOperation
-
-abbrev pub is_at_or_inside : List ℕ → List ℕ → Bool
-is_at_or_inside dir path = bytes_eq dir path || is_inside dir path
 
 abbrev pub moved_path : List ℕ → List ℕ → List ℕ → List ℕ
 moved_path from to path = if is_at_or_inside from path then to ++ drop (length from) path else path

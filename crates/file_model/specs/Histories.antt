@@ -31,6 +31,11 @@ Now (world ∷ past) P = P world
 abbrev pub instant : History → ℕ
 instant history = length history
 
+-- P of the world at the start of a run that added some worlds; where none is told it added none
+abbrev pub FromStart : History → List World → (World → Type 0) → Type 0
+FromStart [] added P = added ≡ []
+FromStart (world ∷ past) added P = P world
+
 -- a crash now may leave this image
 abbrev pub MayLeaveNow : History → Image → Type 0
 MayLeaveNow [] image = ⊥
@@ -56,7 +61,7 @@ GoesOn call (Err e) (world ∷ past) new =
 pub record Ran (R : Disk → Disk → Type 0) (old new : History) : Type 0 where
   pub added : History
   pub whole : new ≡ added ++ old
-  pub each : Now old (λ start. AllByRecursion (λ world. (world.streams ≡ start.streams) × R start.disk world.disk) added)
+  pub each : FromStart old added (λ start. AllByRecursion (λ world. (world.streams ≡ start.streams) × R start.disk world.disk) added)
 
 -- the disk at the end stands in R to the disk at the start
 abbrev pub Ended : (Disk → Disk → Type 0) → History → History → Type 0
@@ -113,4 +118,4 @@ Says bytes (Err e) (world ∷ past) new = (n : ℕ) ×
 pub record Passed (R : World → World → Type 0) (old new : History) : Type 0 where
   pub added : History
   pub whole : new ≡ added ++ old
-  pub each : Now old (λ start. AllByRecursion (R start) added)
+  pub each : FromStart old added (λ start. AllByRecursion (R start) added)

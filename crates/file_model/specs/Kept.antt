@@ -1,10 +1,10 @@
 -- What calls keep, as the crates above say it.
-use Rattle.std.specs.Prelude.{ℕ, List, [], ◌++◌, ◌≡◌, ◌≢◌, ◌⊎◌, ◌<◌, ◌≤◌, Some, take, length}
+use Rattle.std.specs.Prelude.{ℕ, List, [], ◌++◌, ◌≡◌, ◌≢◌, ◌⊎◌, ◌<◌, ◌≤◌, Some, take, drop, length, false, if◌then◌else◌}
 use Rattle.std.specs.FinMap.{get}
-use Rattle.file_model.specs.Images.{Image, Names, Agree, bytes_at, text_at, a_file, node_at, nothing, file}
+use Rattle.file_model.specs.Images.{Image, Names, Entry, Node, Agree, bytes_at, text_at, a_file, a_directory, node_at, nothing, file}
 use Rattle.file_model.specs.Kinds.{IsFile, CanMake}
-use Rattle.file_model.specs.Paths.{parent, temporary_of}
-use Rattle.file_model.specs.Disk.{Disk, MayStand, MayLeave, IsPossible, left_pending_by, seen_names, seen}
+use Rattle.file_model.specs.Paths.{parent, is_top, is_at_or_inside, temporary_of}
+use Rattle.file_model.specs.Disk.{Disk, MayStand, MayLeave, IsPossible, AreBytes, left_pending_by, seen_names, seen}
 
 -- Each image that a crash may leave of new agrees, at these paths, with one that a crash might have left of old.
 pub record Keeps (at : List ℕ → Type 0) (old new : Disk) : Type 0 where
@@ -14,6 +14,25 @@ pub record Keeps (at : List ℕ → Type 0) (old new : Disk) : Type 0 where
 pub record Replaces (place : List ℕ) (bytes : List ℕ) (at : List ℕ → Type 0) (old new : Disk) : Type 0 where
   pub each : (image : Image) → MayLeave new image → (before : Image) × MayLeave old before × ((path : List ℕ) → at path → Agree path image before)
       × (Agree place image before ⊎ (bytes_at image place ≡ Some bytes))
+
+-- Each image that a crash may leave of new agrees, at all other paths, with one that a crash might have left of old; at this path it agrees too or has this node.
+pub record ChangesTo (place : List ℕ) (node : Node) (old new : Disk) : Type 0 where
+  pub each : (image : Image) → MayLeave new image → (before : Image) × MayLeave old before × ((path : List ℕ) → path ≢ place → Agree path image before)
+      × (Agree place image before ⊎ (node_at image place ≡ node))
+
+-- what stands at each path once what stood at one path, and all in it, was moved to another
+abbrev pub moved_node : List ℕ → List ℕ → Image → List ℕ → Node
+moved_node from to image path =
+    if is_at_or_inside to path then node_at image (from ++ drop (length to) path) else if is_at_or_inside from path then nothing else node_at image path
+
+-- Each image that a crash may leave of new agrees everywhere with one that a crash might have left of old, or with one of these after the move.
+pub record MovesWhole (from to : List ℕ) (old new : Disk) : Type 0 where
+  pub each : (image : Image) → MayLeave new image → (before : Image) × MayLeave old before
+      × (((path : List ℕ) → Agree path image before) ⊎ ((path : List ℕ) → node_at image path ≡ moved_node from to before path))
+
+-- reads see all at its new place
+pub record SeesMoved (from to : List ℕ) (old new : Disk) : Type 0 where
+  pub each : (path : List ℕ) → node_at (seen new) path ≡ moved_node from to (seen old) path
 
 -- The image agrees with one that a crash might have left of a disk; but where reads saw nothing at one path, and nothing stood there, it may have the empty file.
 pub record IsLeftOrMade (place : List ℕ) (disk : Disk) (image : Image) : Type 0 where
@@ -44,7 +63,10 @@ pub record IsSound (disk : Disk) : Type 0 where
   pub fresh : (names : Names) → MayStand disk.durable disk.pending names → (path : List ℕ) (id : ℕ) → get names path ≡ Some (a_file id) → id < disk.next
   -- a file stands at one path
   pub alone : (names : Names) → MayStand disk.durable disk.pending names → (path other : List ℕ) (id : ℕ) → get names path ≡ Some (a_file id) → get names other ≡ Some (a_file id) → other ≡ path
+  -- what stands below a top stands in a directory
+  pub rooted : (names : Names) → MayStand disk.durable disk.pending names → (path : List ℕ) (e : Entry) → get names path ≡ Some e → is_top path ≡ false → get names (parent path) ≡ Some a_directory
   pub possible : (id : ℕ) → IsPossible (disk.files id).durable (disk.files id).edits (disk.files id).seen
+  pub are_bytes : (id : ℕ) → AreBytes (disk.files id).durable
 
 -- the file at a path, which stands nowhere else, has these bytes in what reads see
 pub record IsOwn (path : List ℕ) (bytes : List ℕ) (disk : Disk) : Type 0 where

@@ -6,10 +6,8 @@
 
 ghost use Rattle.std.specs.Prelude.{◌≤◌};
 
-mod host;
-
-use host::StdHost;
 use imapd_core::imapd;
+use real_host::RealHost;
 use std::process::ExitCode;
 use std::time::{SystemTime, UNIX_EPOCH};
 use std::{env, io};
@@ -23,7 +21,7 @@ fn main(rt: HostRuntime) -> ExitCode {
         return ExitCode::from(NO_WORDS);
     };
     let moment = moment(&rt);
-    let mut host = StdHost::new(rt);
+    let mut host = RealHost::new(rt);
     ExitCode::from(imapd(alloc, words.as_slice(), &mut host, moment).number())
 }
 

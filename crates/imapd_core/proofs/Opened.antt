@@ -1,12 +1,13 @@
 -- INBOX is made where nothing stands.
-use Rattle.std.proofs.Common.{◌≡◌, ◌≢◌, ℕ, true, List, [], ◌∷◌, refl, sym, ◌∙◌, ap, subst, codes, Result, OnOk}
+use Rattle.std.proofs.Common.{◌≡◌, ◌≢◌, ℕ, true, false, List, [], ◌∷◌, refl, sym, ◌∙◌, ap, subst, codes, bytes_eq, Result, OnOk}
 use Rattle.std.proofs.lemmas.List.{append-nil}
 use Rattle.file_model.specs.declared.files.Failed.{Failed}
 use Rattle.file_model.specs.declared.files.Kind.{Kind}
 use Rattle.file_model.specs.declared.files.Kind.TheVariants.{Nothing}
-use Rattle.file_model.specs.Paths.{parent}
+use Rattle.file_model.specs.Paths.{parent, is_top}
 use Rattle.file_model.specs.Images.{Node, nothing, file, directory, node_of, node_at, is_directory}
-use Rattle.file_model.specs.Kinds.{kind_of}
+use Rattle.file_model.specs.Kinds.{kind_of, CanMake}
+use Rattle.file_model.proofs.Reserved.{free_makes}
 use Rattle.file_model.specs.Disk.{Disk, seen, make, after}
 use Rattle.file_model.specs.Kept.{IsSound, MayMake}
 use Rattle.file_model.specs.Histories.{History, Now, Ran, Ended, Passed, GoesOn}
@@ -17,7 +18,7 @@ use Rattle.file_model.proofs.Runs.{ran_none, ended_call, now_both}
 use Rattle.file_model.proofs.Passes.{ran_passed, ran_arrived, arrived_with}
 use Rattle.session_loop.specs.Instants.{Answering, HasAnswered, Opened}
 use Rattle.imapd_core.specs.Replies.{State, StandsFor, IsAlike, protocol}
-use Rattle.imapd_core.specs.Server.{inbox_of, first_node, first_state, IsMade}
+use Rattle.imapd_core.specs.Server.{inbox_of, is_word, first_node, first_state, IsMade}
 
 no_kind : (node : Node) → Nothing ≡ kind_of node → node ≡ nothing
 no_kind nothing is = refl
@@ -65,6 +66,20 @@ there_ran path old new same = subst (λ h. Ran (MayMake path) old h) (sym same) 
 -- the root is INBOX's directory
 pub in_root : (root path : List ℕ) (h : History) → path ≡ inbox_of root → Now h (λ w. is_directory (seen w.disk) root ≡ true) → Now h (λ w. is_directory (seen w.disk) (parent path) ≡ true)
 in_root root path h is now = subst (λ dir. Now h (λ w. is_directory (seen w.disk) dir ≡ true)) (sym (ap parent is ∙ parent_child root (codes "INBOX") (refl, (refl, (refl, (refl, (refl, tt))))))) now
+
+-- a word that may be a root isn't empty, so its INBOX is below a top
+pub inbox_below : (root path : List ℕ) → path ≡ inbox_of root → is_word root ≡ true → is_top path ≡ false
+inbox_below root path is word =
+    ap is_top is ∙ ap (λ dir. bytes_eq dir []) (parent_child root (codes "INBOX") (refl, (refl, (refl, (refl, (refl, tt)))))) ∙ some root word
+  where
+    some : (root : List ℕ) → is_word root ≡ true → bytes_eq root [] ≡ false
+    some [] word = absurd (cc)
+    some (b ∷ rest) word = refl
+
+-- one can be made where nothing stands
+pub inbox_makes : (path : List ℕ) (h : History) → is_top path ≡ false → Now h (λ w. is_directory (seen w.disk) (parent path) ≡ true) → Now h (λ w. node_at (seen w.disk) path ≡ nothing) → Now h (λ w. CanMake (seen w.disk) path)
+inbox_makes path [] below room none = tt
+inbox_makes path (w ∷ past) below room none = free_makes (seen w.disk) path (record { nothing_there = none; room = room; below = below })
 
 -- ---- The session's opening
 

@@ -1,6 +1,6 @@
 // Before the greeting.
 ghost use Rattle.std.specs.Prelude.{◌≡◌, ◌≢◌, true, false, IfOk, IfErr, OnOk, string_bytes};
-ghost use Rattle.file_model.specs.Paths.{parent};
+ghost use Rattle.file_model.specs.Paths.{parent, is_top};
 ghost use Rattle.file_model.specs.Images.{is_directory};
 ghost use Rattle.file_model.specs.Disk.{seen};
 ghost use Rattle.file_model.specs.Histories.{Now, Passed, Ran, Ended};
@@ -8,7 +8,7 @@ ghost use Rattle.file_model.specs.Causes.{FileCause};
 ghost use Rattle.file_model.specs.Kept.{MayMake};
 ghost use Rattle.session_loop.specs.Instants.{Answering, Opened};
 ghost use Rattle.imapd_core.specs.Replies.{State, StandsFor, protocol};
-ghost use Rattle.imapd_core.specs.Server.{inbox_of, first_state, IsMade, OpeningCause, NoLines};
+ghost use Rattle.imapd_core.specs.Server.{inbox_of, is_word, first_state, IsMade, OpeningCause, NoLines};
 
 use crate::inbox::Inbox;
 use file_model::{Failed, Files, Kind};
@@ -25,6 +25,8 @@ pub enum NoSession {
 
 /// Opens the session of a root, and makes INBOX where nothing stands.
 pub fn open<F: Files>(alloc: Global, files: &mut F, root: &str) -> Result<Inbox, NoSession>
+    requires { is_word root.now ≡ true }
+
     // At each instant nothing is said, and a crash leaves what was there, or that and an empty INBOX.
     ensures instants { (state : State) → Now (F.history files.old) (λ w. state ≡ first_state root.now w.disk)
         → Passed (Answering protocol state NoLines) (F.history files.old) (F.history files.new) }
@@ -48,6 +50,7 @@ pub fn open<F: Files>(alloc: Global, files: &mut F, root: &str) -> Result<Inbox,
 
 // The same, where the root is a directory.
 fn open_in<F: Files>(alloc: Global, files: &mut F, root: &str) -> Result<Inbox, NoSession>
+    requires word { is_word root.now ≡ true }
     requires root { Now (F.history files.old) (λ w. is_directory (seen w.disk) root.now ≡ true) }
     ensures instants { (state : State) → Now (F.history files.old) (λ w. state ≡ first_state root.now w.disk)
         → Passed (Answering protocol state NoLines) (F.history files.old) (F.history files.new) }
@@ -77,6 +80,7 @@ fn inbox_path(alloc: Global, root: &str) -> Result<String, AllocError>
 // Makes an empty file where nothing stands.
 fn make_missing<F: Files>(files: &mut F, path: &str) -> Result<(), Failed>
     requires room { Now (F.history files.old) (λ w. is_directory (seen w.disk) (parent path.now) ≡ true) }
+    requires below { is_top path.now ≡ false }
     ensures instants { Ran (MayMake path.now) (F.history files.old) (F.history files.new) }
     ensures made { OnOk result (Ended (IsMade path.now) (F.history files.old) (F.history files.new)) }
     ensures cause { FileCause (F.faults files.old) (F.faults files.new) result }

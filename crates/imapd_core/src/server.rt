@@ -123,6 +123,7 @@ fn is_word(word: &[u8]) -> bool
 
 // Serves the mailboxes of a root, with the clauses of the top call.
 fn serve_root<H: Host>(alloc: Global, host: &mut H, root: &str) -> Status
+    requires { is_word root.now ≡ true }
     ensures said { Now (H.history host.old) (λ start. (world : World) → Contains (worlds_since (instant (H.history host.old)) (H.history host.new)) world
         → SaysReplies protocol (first_state root.now start.disk) start world) }
     ensures served { WasServed result → Arrived (IsServedAs root.now result) (H.history host.old) (H.history host.new) }

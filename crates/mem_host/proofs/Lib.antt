@@ -1,3 +1,5 @@
+pub mod Fitted
+pub mod Listed
 pub mod Mirrored
 pub mod Putting
 pub mod Replayed

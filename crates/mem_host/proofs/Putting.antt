@@ -1,5 +1,5 @@
 -- What stands on a disk after something was put there.
-use Rattle.std.proofs.Common.{◌≡◌, ◌≢◌, inl, inr, ℕ, ◌+◌, ◌<◌, ◌≤◌, List, [], ◌∷◌, ◌++◌, length, take, get_or, Bool, true, false, cond, not, ◌&&◌, ◌==◌, nat_lt, Option, Some, None, refl, sym, ◌∙◌, ap, subst, arith, length-append, length-take, get_or-take}
+use Rattle.std.proofs.Common.{◌≡◌, ◌≢◌, inl, inr, ℕ, ◌+◌, ◌<◌, ◌≤◌, List, [], ◌∷◌, ◌++◌, length, take, drop, get_or, Bool, true, false, cond, not, ◌&&◌, ◌==◌, nat_lt, ◌||◌, Option, Some, None, refl, sym, ◌∙◌, ap, subst, arith, length-append, length-take, get_or-take, take-append-drop, append_assoc, append-nil}
 use Rattle.std.proofs.Math.Seq.{get_or-append_seam}
 use Rattle.std.proofs.lemmas.List.{take_more}
 use Rattle.std.proofs.lemmas.Grind.{common_steps}
@@ -7,10 +7,12 @@ use Rattle.std.proofs.lemmas.Bool.Decides.{nat_tests}
 use Rattle.std.proofs.lemmas.Slice.Eq.{bytes_eq-Decides}
 use Rattle.std.specs.Str.{bytes_eq}
 use Rattle.std.specs.FinMap.{get}
-use Rattle.file_model.specs.Paths.{is_inside}
-use Rattle.file_model.specs.Images.{Image, Entry, a_file, a_directory, Node, node_of, node_at, bytes_of, bytes_at, file, directory}
+use Rattle.file_model.specs.Paths.{parent, is_top, is_inside}
+use Rattle.file_model.specs.Images.{Image, Entry, a_file, a_directory, Node, node_of, node_at, bytes_of, bytes_at, file, directory, directory_test}
 use Rattle.file_model.specs.Disk.{Disk, seen, seen_names}
 use Rattle.file_model.specs.Kept.{IsSound}
+use Rattle.std.proofs.lemmas.Bool.{false_from_ne_true}
+use Rattle.file_model.proofs.Inside.{named, child_inside}
 use Rattle.file_model.proofs.Names.{cases_path, get-insert_same, get-insert_other, all_may_stand}
 use Rattle.mem_host.specs.Replay.{resting_file, with_directory, with_resting_file}
 use Rattle.mem_host.specs.Putting.{is_above, NoFileAbove, with_parents}
@@ -182,3 +184,39 @@ files_kept path at node base q clear is = ap bytes_of is ∙ split (is_above q p
 pub no_file_next : (path : List ℕ) (at : ℕ) (node : Node) (base : Image) → NoFileAbove base path → at < length path → get_or path at 0 ≡ 47 → 0 < at
     → node ≡ cond (is_above_before path at (take at path)) directory (node_at base (take at path)) → bytes_of node ≡ None
 no_file_next path at node base clear below slash some is = files_kept path at node base (take at path) clear is ∙ clear (take at path) (is_above_at path at below slash some)
+
+-- ---- The directory in which something is put
+
+above_named : (path rest : List ℕ) → is_top path ≡ false → is_above (parent path) (path ++ rest) ≡ true
+above_named path rest below =
+    let w = named path below in
+    let inside : is_inside (parent path) (path ++ rest) ≡ true =
+    subst (λ p. is_inside (parent path) (p ++ rest) ≡ true) (sym w.whole) (ap (is_inside (parent path)) (append_assoc (parent path) (47 ∷ w.name) rest) ∙ child_inside (parent path) (w.name ++ rest)) in
+    ap (λ b. b && not (bytes_eq (parent path) [])) inside ∙ ap not below
+
+-- the directory of a path's next directory was put before it, if it has one
+pub room_next : (path : List ℕ) (at : ℕ) (nodes : List ℕ → Node) (base : Image) → at < length path → ((q : List ℕ) → nodes q ≡ cond (is_above_before path at q) directory (node_at base q))
+    → (is_top (take at path) || directory_test (nodes (parent (take at path)))) ≡ true
+room_next path at nodes base below stands = split (is_top (take at path)) refl
+  where
+    split : (b : Bool) → is_top (take at path) ≡ b → (b || directory_test (nodes (parent (take at path)))) ≡ true
+    split true top = refl
+    split false top =
+        let w = named (take at path) top in
+        let above : is_above (parent (take at path)) path ≡ true = subst (λ p. is_above (parent (take at path)) p ≡ true) (take-append-drop at path) (above_named (take at path) (drop at path) top) in
+        let short : length (parent (take at path)) < at = omega (arith, length-take at path, ap length w.whole, length-append (parent (take at path)) (47 ∷ w.name)) in
+        ap directory_test (stands (parent (take at path))
+        ∙ ap (λ b. cond b directory (node_at base (parent (take at path)))) (ap (λ b. b && nat_lt (length (parent (take at path))) at) above ∙ lt_is (length (parent (take at path))) at short))
+
+-- and so was the path's own
+pub room_end : (path : List ℕ) (nodes : List ℕ → Node) (base : Image) → ((q : List ℕ) → nodes q ≡ with_parents base path q) → (is_top path || directory_test (nodes (parent path))) ≡ true
+room_end path nodes base stands = split (is_top path) refl
+  where
+    split : (b : Bool) → is_top path ≡ b → (b || directory_test (nodes (parent path))) ≡ true
+    split true top = refl
+    split false top = ap directory_test (stands (parent path)
+        ∙ ap (λ b. cond b directory (node_at base (parent path))) (subst (λ p. is_above (parent path) p ≡ true) (append-nil path) (above_named path [] top)))
+
+-- a path doesn't lead through itself
+pub itself_stays : (path : List ℕ) (base : Image) → with_parents base path path ≡ node_at base path
+itself_stays path base = ap (λ b. cond b directory (node_at base path)) (false_from_ne_true (is_above path path) (λ is. let a = above_is path path is in absurd (omega (arith, a.short))))

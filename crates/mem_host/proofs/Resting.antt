@@ -1,10 +1,11 @@
 -- What is put before any call leaves the disk at rest.
 use Rattle.std.proofs.Common.{◌≡◌, ◌==◌, ℕ, List, [], ◌∷◌, Bool, true, false, cond, refl, ◌∙◌, ap}
-use Rattle.file_model.specs.Disk.{Disk, FileState}
+use Rattle.file_model.specs.Disk.{Disk, FileState, seen}
 use Rattle.file_model.specs.Kept.{IsAtRest}
 use Rattle.file_model.specs.Histories.{World, History}
-use Rattle.mem_host.specs.Events.{Event, put_directory, put_file, did, refused, heard, hear_failed, said, say_failed}
-use Rattle.mem_host.specs.Replay.{silent, resting_file, with_resting_file, next_world, pushed, replay, world_after, AllPut, IsPut, IsUntouched}
+use Rattle.mem_host.specs.Events.{Event, put_directory, put_file, looked, did, refused, heard, hear_failed, said, say_failed}
+use Rattle.mem_host.specs.Fitting.{can_put, can_put_file}
+use Rattle.mem_host.specs.Replay.{silent, resting_file, with_directory, with_resting_file, next_world, pushed, replay, world_after, AllPut, IsPut, IsUntouched}
 
 abbrev IsResting : FileState → Type 0
 IsResting f = (f.edits ≡ []) × (f.durable ≡ f.seen)
@@ -23,16 +24,21 @@ at_rest_file path bytes disk rest = record {
     file : (id : ℕ) → IsResting (cond (id == disk.next) (resting_file bytes) (disk.files id))
     file id = resting_either (id == disk.next) (resting_file bytes) (disk.files id) (refl, refl) (rest.no_edits id, rest.is_seen id)
 
+at_rest_where : (test : Bool) (disk changed : Disk) → IsAtRest disk → IsAtRest changed → IsAtRest (cond test changed disk)
+at_rest_where true disk changed rest then = then
+at_rest_where false disk changed rest then = rest
+
 -- the history has the one world
 next_put : (event : Event) (world : World) → IsPut event → IsAtRest world.disk → (pushed event (world ∷ []) ≡ next_world event world ∷ []) × IsAtRest (next_world event world).disk × ((next_world event world).streams ≡ world.streams)
-next_put (put_directory path) world put rest = (refl, record { none_pending = refl; no_edits = rest.no_edits; is_seen = rest.is_seen }, refl)
-next_put (put_file path bytes) world put rest = (refl, at_rest_file path bytes world.disk rest, refl)
+next_put (put_directory path) world put rest = (refl, at_rest_where (can_put (seen world.disk) path) world.disk (with_directory path world.disk) rest (record { none_pending = refl; no_edits = rest.no_edits; is_seen = rest.is_seen }), refl)
+next_put (put_file path bytes) world put rest = (refl, at_rest_where (can_put_file (seen world.disk) path bytes) world.disk (with_resting_file path bytes world.disk) rest (at_rest_file path bytes world.disk rest), refl)
+next_put looked world put rest = absurd put
 next_put (did call) world put rest = absurd put
 next_put (refused call) world put rest = absurd put
 next_put (heard room piece) world put rest = absurd put
 next_put hear_failed world put rest = absurd put
 next_put (said bytes) world put rest = absurd put
-next_put (say_failed bytes) world put rest = absurd put
+next_put (say_failed bytes n) world put rest = absurd put
 
 record Rests (events : List Event) : Type 0 where
   one : replay events ≡ world_after events ∷ []

@@ -6,11 +6,14 @@ pub data Event : Type 0 where
   -- put on the disk at rest, before any call
   put_directory : List ℕ → Event
   put_file : List ℕ → List ℕ → Event
-  -- a call on the files, which was done or failed
+  -- a call that only reads, whatever came of it
+  looked : Event
+  -- a call that changes the files, which was done or failed
   did : Call → Event
   refused : Call → Event
   -- what a `hear` gave where there was room for so many bytes
   heard : ℕ → List ℕ → Event
   hear_failed : Event
   said : List ℕ → Event
-  say_failed : List ℕ → Event
+  -- so many of the bytes were said
+  say_failed : List ℕ → ℕ → Event

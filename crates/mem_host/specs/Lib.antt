@@ -1,5 +1,7 @@
+pub mod Applied
 pub mod Coming
 pub mod Events
+pub mod Fitting
 pub mod Host
 pub mod Input
 pub mod Mirror

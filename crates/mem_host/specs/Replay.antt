@@ -3,10 +3,11 @@ use Rattle.std.specs.Prelude.{ℕ, List, [], ◌∷◌, ◌++◌, ◌≡◌, ◌
 use Rattle.std.specs.List.{AllByRecursion}
 use Rattle.std.specs.FinMap.{insert, empty}
 use Rattle.file_model.specs.Images.{Image, a_file, a_directory}
-use Rattle.file_model.specs.Disk.{Disk, FileState, empty_file, seen_names, seen, after}
+use Rattle.file_model.specs.Disk.{Disk, FileState, empty_file, seen_names, seen, Call, after}
 use Rattle.file_model.specs.Kept.{IsAtRest}
 use Rattle.file_model.specs.Histories.{Streams, World, History, with_disk, with_streams, with_turn, saying}
-use Rattle.mem_host.specs.Events.{Event, put_directory, put_file, did, refused, heard, hear_failed, said, say_failed}
+use Rattle.mem_host.specs.Fitting.{fits, can_put, can_put_file}
+use Rattle.mem_host.specs.Events.{Event, put_directory, put_file, looked, did, refused, heard, hear_failed, said, say_failed}
 
 -- nothing was heard or said
 abbrev pub silent : Streams
@@ -36,11 +37,22 @@ with_resting_file path bytes disk = record {
   next = disk.next + 1;
 }
 
+-- a call is done where it fits
+abbrev pub after_fitting : Call → Disk → Disk
+after_fitting call disk = if fits call (seen disk) then after call disk else disk
+
+abbrev pub with_put_directory : List ℕ → Disk → Disk
+with_put_directory path disk = if can_put (seen disk) path then with_directory path disk else disk
+
+abbrev pub with_put_file : List ℕ → List ℕ → Disk → Disk
+with_put_file path bytes disk = if can_put_file (seen disk) path bytes then with_resting_file path bytes disk else disk
+
 -- the world after an event
 abbrev pub next_world : Event → World → World
-next_world (put_directory path) world = with_disk world (with_directory path world.disk)
-next_world (put_file path bytes) world = with_disk world (with_resting_file path bytes world.disk)
-next_world (did call) world = with_disk world (after call world.disk)
+next_world (put_directory path) world = with_disk world (with_put_directory path world.disk)
+next_world (put_file path bytes) world = with_disk world (with_put_file path bytes world.disk)
+next_world looked world = world
+next_world (did call) world = with_disk world (after_fitting call world.disk)
 next_world (refused call) world = world
 next_world (heard room piece) world = with_streams world (record {
   heard = world.streams.heard ++ piece;
@@ -57,18 +69,19 @@ next_world hear_failed world = with_streams world (record {
   turns = with_turn world.streams;
 })
 next_world (said bytes) world = saying world bytes (length (world.streams.said ++ bytes))
-next_world (say_failed bytes) world = saying world (take 0 bytes) (length (world.streams.said ++ take 0 bytes))
+next_world (say_failed bytes n) world = saying world (take n bytes) (length (world.streams.said ++ take n bytes))
 
--- The history after an event: what is put changes the world itself, a refused call adds none, and inside `say` stands one more.
+-- The history after an event: what is put changes the world itself, inside a call that was refused a crash may find it done, and inside `say` it finds some of it said.
 abbrev pub instants : Event → World → History → History
 instants (put_directory path) world past = next_world (put_directory path) world ∷ past
 instants (put_file path bytes) world past = next_world (put_file path bytes) world ∷ past
+instants looked world past = world ∷ past
 instants (did call) world past = next_world (did call) world ∷ world ∷ past
-instants (refused call) world past = world ∷ past
+instants (refused call) world past = with_disk world world.disk ∷ with_disk world (after_fitting call world.disk) ∷ world ∷ past
 instants (heard room piece) world past = next_world (heard room piece) world ∷ world ∷ past
 instants hear_failed world past = next_world hear_failed world ∷ world ∷ past
 instants (said bytes) world past = next_world (said bytes) world ∷ saying world bytes (length world.streams.said) ∷ world ∷ past
-instants (say_failed bytes) world past = next_world (say_failed bytes) world ∷ saying world bytes (length world.streams.said) ∷ world ∷ past
+instants (say_failed bytes n) world past = next_world (say_failed bytes n) world ∷ saying world bytes (length world.streams.said) ∷ world ∷ past
 
 -- the same of a whole history
 abbrev pub pushed : Event → History → History
@@ -93,12 +106,13 @@ seen_after events = seen (world_after events).disk
 abbrev pub IsPut : Event → Type 0
 IsPut (put_directory path) = Unit {0}
 IsPut (put_file path bytes) = Unit {0}
+IsPut looked = ⊥
 IsPut (did call) = ⊥
 IsPut (refused call) = ⊥
 IsPut (heard room piece) = ⊥
 IsPut hear_failed = ⊥
 IsPut (said bytes) = ⊥
-IsPut (say_failed bytes) = ⊥
+IsPut (say_failed bytes n) = ⊥
 
 -- no call was made yet
 abbrev pub AllPut : List Event → Type 0

@@ -1,10 +1,10 @@
 -- What a host in memory stands for.
-use Rattle.std.specs.Prelude.{ℕ, List, Bool, ◌≡◌, ◌+◌, ◌-◌, ◌^◌, ◌==◌, min}
+use Rattle.std.specs.Prelude.{ℕ, List, ◌∷◌, Bool, ◌≡◌, ◌+◌, ◌-◌, ◌^◌, ◌==◌, min}
 use Rattle.std.specs.List.{list_any}
 use Rattle.file_model.specs.Images.{Image}
 use Rattle.file_model.specs.Causes.{Faults}
 use Rattle.file_model.specs.Histories.{History}
-use Rattle.mem_host.specs.Events.{Event}
+use Rattle.mem_host.specs.Events.{Event, looked}
 use Rattle.mem_host.specs.Coming.{Coming}
 use Rattle.mem_host.specs.Replay.{replay, seen_after, world_after}
 
@@ -53,9 +53,9 @@ pub record IsQuietCall (old new : State) : Type 0 where
   pub fails : new.fails ≡ old.fails
   pub coming : new.coming ≡ old.coming
 
--- The same of a call that only reads.
+-- The same of a call that changes nothing.
 pub record IsReading (old new : State) : Type 0 where
   pub calls : new.calls ≡ min (old.calls + 1) (2 ^ 64 - 1)
   pub fails : new.fails ≡ old.fails
   pub coming : new.coming ≡ old.coming
-  pub events : new.events ≡ old.events
+  pub events : new.events ≡ looked ∷ old.events

@@ -48,8 +48,8 @@ impl Input {
         }
     }
 
-    /// A turn that gives nothing takes its cut too.
-    pub(crate) fn skip(&mut self)
+    // A turn takes its cut.
+    fn skip(&mut self)
         ensures { self.new ≡ after_turn 0 self.old }
     {
         if self.next_cut < self.cuts.len() {

@@ -5,6 +5,8 @@
 //! itself has no bytes: a call that finds no memory fails, and is on the record like any other.
 #![tactic(auto)]
 
+mod apply;
+mod contents;
 mod files;
 mod host;
 mod input;

@@ -1,15 +1,16 @@
 // What reads see of the disk, kept beside the record that it is the outcome of.
-ghost use Rattle.std.specs.Prelude.{◌≡◌, ◌≤◌, ◌-◌, ◌∷◌, min, length, take, drop, [], List, ℕ, OnOk, OnErr, IsErr, None, true, option_map, if◌then◌else◌};
+ghost use Rattle.std.specs.Prelude.{◌≡◌, ◌≤◌, ◌-◌, ◌∷◌, min, length, take, drop, map, string_bytes, [], List, ℕ, IfOk, OnOk, OnErr, None, true, false, option_map, if◌then◌else◌};
 ghost use Rattle.std.specs.Borrow.{Bor};
 ghost use Rattle.std.specs.Str.{bytes_eq};
-ghost use Rattle.file_model.specs.Disk.{make};
-ghost use Rattle.file_model.specs.Images.{node_at, bytes_at, is_directory, file, directory};
-ghost use Rattle.file_model.specs.Kinds.{kind_of, IsFile, Gives};
-ghost use Rattle.mem_host.specs.Events.{did, refused, heard, hear_failed, said, say_failed};
+ghost use Rattle.file_model.specs.Images.{node_at, bytes_at, is_directory, names_in, file, directory};
+ghost use Rattle.file_model.specs.Kinds.{kind_of, IsFile, Fits, Gives};
+ghost use Rattle.mem_host.specs.Events.{looked, did, refused, heard, hear_failed, said, say_failed};
+ghost use Rattle.mem_host.specs.Fitting.{can_put};
 ghost use Rattle.mem_host.specs.Replay.{seen_after, AllPut};
 ghost use Rattle.mem_host.specs.Putting.{NoFileAbove, with_parents};
 
-use crate::names::{Place, content_at, kind_at, put_content, put_name};
+use crate::apply::apply;
+use crate::names::{Place, content_at, kind_at, names_in, put_content, put_name};
 use crate::record::{Note, Record, Request};
 use file_model::{Failed, Kind};
 use std::alloc::{AllocError, Global};
@@ -69,6 +70,15 @@ impl Mirror {
         kind_at(&self.names, self.contents.as_slice(), path)
     }
 
+    pub(crate) fn is_directory(&self, path: &str) -> bool
+        ensures { result ≡ is_directory (seen_after self.now) path.now }
+    {
+        match self.kind_at(path) {
+            Kind::Dir => true,
+            _ => false,
+        }
+    }
+
     pub(crate) fn content_at(&self, path: &str) -> Option<&[u8]>
         ensures { option_map (λ (b : Bor (List ℕ)). b.now) result ≡ bytes_at (seen_after self.now) path.now }
     {
@@ -88,28 +98,30 @@ impl Mirror {
         }
     }
 
-    /// Makes an empty file where nothing stands.
-    pub(crate) fn make(&mut self, path: &str) -> Result<(), Failed>
-        ensures ok { OnOk result (self.new ≡ did (make path.now) ∷ self.old) }
-        ensures err { OnErr result (self.new ≡ self.old) }
-        ensures obstructed { is_directory (seen_after self.old) path.now ≡ true → IsErr result }
+    /// The names in a directory.
+    pub(crate) fn names_in(&self, alloc: Global, dir: &str) -> Result<Vec<String>, AllocError>
+        ensures { IfOk result (λ names. map string_bytes names.items ≡ names_in (seen_after self.now) dir.now) }
     {
-        if self.names.contains_key(path) {
+        names_in(alloc, &self.names, dir)
+    }
+
+    /// Does a call. Where it finds no memory all stays as it was.
+    pub(crate) fn perform(&mut self, request: Request<'_>) -> Result<(), Failed>
+        requires { Fits (call_of request) (seen_after self.old) }
+        ensures ok { OnOk result (self.new ≡ did (call_of request.entry) ∷ self.old) }
+        ensures err { OnErr result (self.new ≡ self.old) }
+    {
+        if apply(self.alloc, &mut self.names, &mut self.contents, request).is_err() {
             return Err(Failed);
         }
-        let empty = Vec::new(self.alloc);
-        match put_content(self.alloc, &mut self.names, &mut self.contents, path, empty) {
-            Ok(()) => {
-                self.record.add(&Note::Did(Request::Make(path)));
-                Ok(())
-            }
-            Err(_) => Err(Failed),
-        }
+        self.record.add(&Note::Did(request));
+        Ok(())
     }
 
     /// Puts a directory on the disk at rest, unless one stands there.
     pub(crate) fn put_directory(&mut self, path: &str) -> Result<(), AllocError>
-        requires { bytes_at (seen_after self.old) path.now ≡ None }
+        requires no_file { bytes_at (seen_after self.old) path.now ≡ None }
+        requires room { can_put (seen_after self.old) path.now ≡ true }
         ensures ok { OnOk result ((q : List ℕ) → node_at (seen_after self.new) q ≡ (if bytes_eq q path.now then directory else node_at (seen_after self.old) q)) }
         ensures err { OnErr result (self.new ≡ self.old) }
         ensures puts { AllPut self.old → AllPut self.new }
@@ -138,6 +150,8 @@ impl Mirror {
 
     /// Puts a file on the disk at rest.
     pub(crate) fn put_file(&mut self, path: &str, bytes: &[u8]) -> Result<(), AllocError>
+        requires no_directory { is_directory (seen_after self.old) path.now ≡ false }
+        requires room { can_put (seen_after self.old) path.now ≡ true }
         ensures ok { OnOk result ((q : List ℕ) → node_at (seen_after self.new) q ≡ (if bytes_eq q path.now then file bytes.now else node_at (seen_after self.old) q)) }
         ensures err { OnErr result (self.new ≡ self.old) }
         ensures puts { AllPut self.old → AllPut self.new }
@@ -146,6 +160,13 @@ impl Mirror {
         put_content(self.alloc, &mut self.names, &mut self.contents, path, copy)?;
         self.record.add(&Note::PutFile(path, bytes));
         Ok(())
+    }
+
+    /// A call that changed nothing.
+    pub(crate) fn look(&mut self)
+        ensures { self.new ≡ looked ∷ self.old }
+    {
+        self.record.add(&Note::Looked);
     }
 
     pub(crate) fn refuse(&mut self, request: Request<'_>)
@@ -172,9 +193,10 @@ impl Mirror {
         self.record.add(&Note::Said(bytes));
     }
 
-    pub(crate) fn say_nothing(&mut self, bytes: &[u8])
-        ensures { self.new ≡ say_failed bytes.now ∷ self.old }
+    /// A call that failed, but said some of the bytes.
+    pub(crate) fn say_part(&mut self, bytes: &[u8], count: usize)
+        ensures { self.new ≡ say_failed bytes.now count ∷ self.old }
     {
-        self.record.add(&Note::SayFailed(bytes));
+        self.record.add(&Note::SayFailed(bytes, count));
     }
 }

@@ -10,6 +10,13 @@ use std::marker::Model;
 #[derive(Clone, Copy, Drop)]
 pub(crate) enum Request<'a> {
     Make(&'a str),
+    MakeDir(&'a str),
+    WriteAt(&'a str, u64, &'a [u8]),
+    Cut(&'a str, u64),
+    Sync(&'a str),
+    SyncDir(&'a str),
+    Rename(&'a str, &'a str),
+    Remove(&'a str),
 }
 
 /// What was asked, and what came of it.
@@ -17,12 +24,13 @@ pub(crate) enum Request<'a> {
 pub(crate) enum Note<'a> {
     PutDirectory(&'a str),
     PutFile(&'a str, &'a [u8]),
+    Looked,
     Did(Request<'a>),
     Refused(Request<'a>),
     Heard(usize, &'a [u8]),
     HearFailed,
     Said(&'a [u8]),
-    SayFailed(&'a [u8]),
+    SayFailed(&'a [u8], usize),
 }
 
 /// The events so far, the newest first.

@@ -1,5 +1,5 @@
 // The calls on the input and the output.
-ghost use Rattle.std.specs.Prelude.{◌≡◌, ◌++◌, ◌≤◌, ◌↔◌, IsTrue, IsErr, IfOk, OnOk, OnErr, length, take, drop};
+ghost use Rattle.std.specs.Prelude.{◌≡◌, ◌++◌, ◌≤◌, ◌↔◌, ◌⊎◌, ◌/◌, IsTrue, IsErr, IfOk, OnOk, OnErr, length, take, drop};
 ghost use Rattle.file_model.specs.Histories.{Hears, Says};
 ghost use Rattle.file_model.specs.Causes.{HearCause, SayCause};
 ghost use Rattle.mem_host.specs.Coming.{piece_length, after_turn};
@@ -20,11 +20,10 @@ impl Host for MemHost {
         ensures whole { heard_of self.new ++ self.new.coming.bytes ≡ heard_of self.old ++ self.old.coming.bytes }
         ensures rest { IfOk result (λ n. drop n buf.new ≡ drop n buf.old) }
         ensures left { IfOk result (λ n. self.new.coming ≡ after_turn n self.old.coming) }
-        ensures skipped { OnErr result (self.new.coming ≡ after_turn 0 self.old.coming) }
+        ensures kept { OnErr result (self.new.coming ≡ self.old.coming) }
         ensures next { IsNextCall self.old self.new }
     {
         if !begin_call(&mut self.calls, self.fails.as_slice()) {
-            self.input.skip();
             self.mirror.hear_nothing();
             return Err(fail(&mut self.counts.hear));
         }
@@ -38,16 +37,20 @@ impl Host for MemHost {
         ensures cause { SayCause self.old.faults self.new.faults result }
         ensures fails { IsTrue (is_failing self.old) → IsErr result }
         ensures said { OnOk result (said_of self.new ≡ said_of self.old ++ bytes.now) }
-        ensures nothing { OnErr result (said_of self.new ≡ said_of self.old) }
+        ensures part { OnErr result ((said_of self.new ≡ said_of self.old) ⊎ (said_of self.new ≡ said_of self.old ++ take (length bytes.now / 2) bytes.now)) }
         ensures next { IsQuietCall self.old self.new }
     {
-        if begin_call(&mut self.calls, self.fails.as_slice())
-            && self.said.extend_from_slice(bytes).is_ok()
-        {
-            self.mirror.say(bytes);
-            return Ok(());
+        let runs = begin_call(&mut self.calls, self.fails.as_slice());
+        let part = if runs { bytes.len() } else { bytes.len() / 2 };
+        if self.said.extend_from_slice(&bytes[..part]).is_err() {
+            self.mirror.say_part(bytes, 0);
+            return Err(fail(&mut self.counts.say));
         }
-        self.mirror.say_nothing(bytes);
-        Err(fail(&mut self.counts.say))
+        if !runs {
+            self.mirror.say_part(bytes, part);
+            return Err(fail(&mut self.counts.say));
+        }
+        self.mirror.say(bytes);
+        Ok(())
     }
 }

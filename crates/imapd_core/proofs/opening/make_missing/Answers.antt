@@ -1,8 +1,9 @@
 use Rattle.std.proofs.Common.{◌≡◌, ℕ, sym, ◌∙◌, subst}
 use Rattle.file_model.specs.declared.files.Kind.TheVariants.{Nothing, File, Dir}
-use Rattle.file_model.specs.Disk.{make}
-use Rattle.file_model.specs.Histories.{GoesOn}
-use Rattle.imapd_core.proofs.Opened.{made_ran, made_now, nothing_now, there_ended}
+use Rattle.file_model.specs.Disk.{make, seen}
+use Rattle.file_model.specs.Histories.{GoesOn, Now}
+use Rattle.file_model.specs.Kinds.{CanMake}
+use Rattle.imapd_core.proofs.Opened.{made_ran, made_now, nothing_now, there_ended, inbox_makes}
 use Rattle.imapd_core.proofs.opening.make_missing.Goals as goal
 
 pub returns-in-Nothing-clause-instants : goal.returns-in-Nothing-clause-instants
@@ -28,3 +29,8 @@ returns-in-File-clause-made g c =
 pub returns-in-Dir-clause-made : goal.returns-in-Dir-clause-made
 returns-in-Dir-clause-made g c =
     there_ended c.args.path.now c.in_ok-stat.field-0 _ _ (λ none. directory_there (sym c.in-Dir.is ∙ none)) c.in_ok-stat.ensures.kind c.in_ok-stat.ensures.same
+
+pub make-requires : goal.make-requires
+make-requires g c =
+    subst (λ h. Now h (λ w. CanMake (seen w.disk) c.args.path.now)) (sym c.in_ok-stat.ensures.same)
+    (inbox_makes c.args.path.now (g.F.Files.history c.args.files.now) c.requires.below c.requires.room (nothing_now c.args.path.now c.in_ok-stat.field-0 _ c.in-Nothing.is c.in_ok-stat.ensures.kind))

@@ -1,9 +1,12 @@
 use Rattle.std.proofs.Common.{◌∙◌}
-use Rattle.imapd_core.proofs.Opened.{in_root, opening_passed, opening_opened}
+use Rattle.imapd_core.proofs.Opened.{in_root, inbox_below, opening_passed, opening_opened}
 use Rattle.imapd_core.proofs.opening.open_in.Goals as goal
 
 pub make_missing-requires : goal.make_missing-requires
-make_missing-requires g c = record { room = in_root c.args.root.now c.as_str.result.now _ (c.as_str.ensures.value ∙ c.in-Ok.ensures) c.requires.root }
+make_missing-requires g c = record {
+  room = in_root c.args.root.now c.as_str.result.now _ (c.as_str.ensures.value ∙ c.in-Ok.ensures) c.requires.root;
+  below = inbox_below c.args.root.now c.as_str.result.now (c.as_str.ensures.value ∙ c.in-Ok.ensures) c.requires.word;
+}
 
 pub returns-in-Ok-make_missing-clause-instants : goal.returns-in-Ok-make_missing-clause-instants
 returns-in-Ok-make_missing-clause-instants g c state is =

@@ -1,6 +1,12 @@
 use Rattle.std.proofs.Common.{sym, ◌∙◌, ap}
+use Rattle.file_model.specs.Images.{node_at}
+use Rattle.mem_host.specs.Replay.{seen_after}
+use Rattle.mem_host.proofs.Putting.{room_end}
 use Rattle.mem_host.proofs.Resting.{untouched, silent_after}
 use Rattle.mem_host.proofs.host.MemHost.put_dir.Goals as goal
+
+pub put_directory-requires-clause-room : goal.put_directory-requires-clause-room
+put_directory-requires-clause-room c = room_end c.args.path.now (node_at (seen_after c.put_parents.new.self)) (seen_after c.self.inside.mirror) c.in_ok-put_parents.ensures.ok
 
 pub invariant_of-self : goal.invariant_of-self
 invariant_of-self c =

@@ -1,6 +1,18 @@
-use Rattle.std.proofs.Common.{sym, ◌∙◌, ap}
+use Rattle.std.proofs.Common.{◌≡◌, false, sym, ◌∙◌, ap, subst}
+use Rattle.file_model.specs.Images.{node_at, is_directory, directory_test}
+use Rattle.mem_host.specs.State.{seen_of}
+use Rattle.mem_host.specs.Replay.{seen_after}
+use Rattle.mem_host.proofs.Putting.{room_end, itself_stays}
 use Rattle.mem_host.proofs.Resting.{untouched, silent_after}
 use Rattle.mem_host.proofs.host.MemHost.put_file.Goals as goal
+
+pub put_file-requires-clause-room : goal.put_file-requires-clause-room
+put_file-requires-clause-room c = room_end c.args.path.now (node_at (seen_after c.put_parents.new.self)) (seen_after c.self.inside.mirror) c.in_ok-put_parents.ensures.ok
+
+pub put_file-requires-clause-no_directory : goal.put_file-requires-clause-no_directory
+put_file-requires-clause-no_directory c =
+    ap directory_test (c.in_ok-put_parents.ensures.ok c.args.path.now ∙ itself_stays c.args.path.now (seen_after c.self.inside.mirror))
+    ∙ subst (λ state. is_directory (seen_of state) c.args.path.now ≡ false) (sym c.self.view_is) c.requires.no_directory
 
 pub invariant_of-self : goal.invariant_of-self
 invariant_of-self c =
