@@ -3,3 +3,5 @@
 
 #[cfg(test)]
 mod memory_host;
+#[cfg(test)]
+mod real_files;

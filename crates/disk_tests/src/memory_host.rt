@@ -68,6 +68,6 @@ fn listed_calls_fail(rt: HostRuntime) {
     assert!(rt; host.say(b"!") == Ok(()));
     assert!(rt; host.hear(&mut buf) == Err(Failed));
     assert!(rt; host.hear(&mut buf) == Ok(2));
-    assert!(rt; host.said() == b"hi!".as_slice());
+    assert!(rt; host.said() == b"hi th!".as_slice());
     assert!(rt; (host.file_faults(), host.say_faults(), host.hear_faults()) == (1, 1, 1));
 }

@@ -1,4 +1,4 @@
-use Rattle.std.proofs.Common.{◌≡◌, ◌∙◌, ap, true, lit≤}
+use Rattle.std.proofs.Common.{◌≡◌, ◌∙◌, ap, true, refl, lit≤}
 use Rattle.std.specs.Prelude.{codes}
 use Rattle.file_model.specs.Paths.{is_inside, split_path}
 use Rattle.file_model.specs.Images.{node_at, is_directory, directory_test, nothing}
@@ -20,4 +20,4 @@ returns-clause-free c =
     let image = seen_of c.put_file.new.self in
     let free : node_at image (codes "/mail/sent") ≡ nothing = c.in_ok-put_file.ensures.stands (codes "/mail/sent") ∙ c.in_ok-host.ensures.nothing (codes "/mail/sent") in
     let room : is_directory image (codes "/mail") ≡ true = ap directory_test (c.in_ok-put_file.ensures.stands (codes "/mail")) in
-    now_after c.put_file.new.self.events (λ w. CanMake (seen w.disk) (codes "/mail/sent")) (free_makes image (codes "/mail/sent") (free, room))
+    now_after c.put_file.new.self.events (λ w. CanMake (seen w.disk) (codes "/mail/sent")) (free_makes image (codes "/mail/sent") (record { nothing_there = free; room = room; below = refl }))
