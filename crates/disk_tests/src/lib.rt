@@ -1,7 +1,10 @@
-//! Runs of the crates on files over a host in memory, as tables.
+//! Runs of the crates on files over a host in memory, as tables; and a change that is settled before it is acknowledged.
 #![tactic(auto)]
 
+pub mod acknowledged;
 #[cfg(test)]
 mod memory_host;
 #[cfg(test)]
 mod real_files;
+#[cfg(test)]
+mod replies;
