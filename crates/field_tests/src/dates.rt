@@ -1,7 +1,8 @@
 //! Dates and numbers read, written and moved to UTC.
 use mail_fields::{
-    Stamp, put_from_date, put_hex, put_imap_date, put_mix_date, read_decimal, read_field_date,
-    read_hex, read_imap_date, read_mix_date, read_octal, read_search_date, stamp_of, to_utc,
+    Stamp, put_from_date, put_hex, put_imap_date, put_mix_date, put_octal, read_decimal,
+    read_field_date, read_hex, read_imap_date, read_mix_date, read_octal, read_search_date,
+    stamp_of, to_utc,
 };
 
 // A stamp's day from 1-Jan-1970, its second of that day and its zone.
@@ -179,4 +180,11 @@ fn a_number_is_written_in_base_16(rt: HostRuntime) {
     let mut text = *b"[........]";
     put_hex(&mut text, 1, 8, 0xc0ffee);
     assert!(rt; text == *b"[00c0ffee]");
+}
+
+#[test]
+fn a_number_is_written_in_base_8(rt: HostRuntime) {
+    let mut text = *b"[......]";
+    put_octal(&mut text, 1, 6, 493);
+    assert!(rt; text == *b"[000755]");
 }

@@ -10,7 +10,10 @@ use Rattle.std.proofs.lemmas.Int.Digits.{digits_value_push}
 use Rattle.std.specs.List.{list_all}
 use Rattle.std.specs.Char.{digit_char, digit_value, is_digit}
 use Rattle.std.specs.Str.Parse.{digits_value}
-use Rattle.mail_fields.specs.Numbers.{number_in, number_at_front, digits_in}
+use Rattle.std.specs.Fmt.{decimal}
+use Rattle.std.proofs.lemmas.Fmt.{decimal_by_steps, decimal_nonempty, length-decimal-le, digits_value-decimal}
+use Rattle.std.proofs.lemmas.Str.Parse.{numerals_by_value, tells_all_ascii_digits}
+use Rattle.mail_fields.specs.Numbers.{number_in, number_at_front, decimal_of, digits_in}
 use Rattle.mail_fields.specs.Texts.{written_at}
 use Rattle.mail_fields.proofs.Texts.{read-written, length-written}
 
@@ -28,6 +31,10 @@ hex_fits width short = pow-le-pow_right (omega arith) short
 
 pub octal_fits : (width : ℕ) → width ≤ 21 → 8 ^ width ≤ 2 ^ 64
 octal_fits width short = let all : 8 ^ width ≤ 8 ^ 21 = pow-le-pow_right (omega arith) short in omega arith
+
+-- a number of at most 10 digits is below 10 ^ 10
+pub ten_digits : (width : ℕ) → width ≤ 10 → 10 ^ width ≤ 10 ^ 10
+ten_digits width short = pow-le-pow_right (omega arith) short
 
 pub length-digits_in : (base width number : ℕ) → length (digits_in base width number) ≡ width
 length-digits_in base zero number = refl
@@ -107,3 +114,19 @@ put-end buffer all place left base rest none is =
   where
     last : (left : ℕ) → left ≡ 0 → take place buffer ++ digits_in base left rest ++ drop (place + left) buffer ≡ take place buffer ++ drop place buffer
     last left done = rw (done, add-zero place, append-nil (take place buffer)) refl
+
+-- a decimal number without zeros before it reads as itself
+pub decimal-digits : (number : ℕ) → number < 2 ^ 64 → list_all (λ byte. is_digit byte 10) (decimal number) ≡ true
+decimal-digits = decimal_by_steps (λ number text. list_all (λ byte. is_digit byte 10) text ≡ true)
+    (λ digit small. digits-are-one digit small)
+    (λ number text small before. list_all-append (λ byte. is_digit byte 10) text ((48 + number % 10) ∷ []) ∙ rw (before, digits-are-one (number % 10) (omega arith)) refl)
+  where
+    digits-are-one : (digit : ℕ) → digit < 10 → list_all (λ byte. is_digit byte 10) ((48 + digit) ∷ []) ≡ true
+    digits-are-one digit small = grind (arith, nat_tests)
+
+pub decimal-reads : (number : ℕ) → number < 10 ^ 10 → decimal_of (decimal number) ≡ Some number
+unfolding number_in
+decimal-reads number small =
+    let some : nat_le 1 (length (decimal number)) ≡ true = grind (arith, nat_tests, decimal_nonempty number (omega arith)) in
+    let few : nat_le (length (decimal number)) 10 ≡ true = grind (arith, nat_tests, length-decimal-le 10 number (omega arith) small (omega arith)) in
+    rw (some, few, decimal-digits number (omega arith), digits_value-decimal (numerals_by_value _ tells_all_ascii_digits) number (omega arith)) refl

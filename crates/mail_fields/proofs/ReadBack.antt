@@ -126,15 +126,18 @@ imap-length : (day month year clock zone : List ℕ) → length day ≡ 2 → le
     → length ((day ++ codes "-" ++ month ++ codes "-" ++ year ++ codes " ") ++ clock ++ (codes " " ++ zone)) ≡ 26
 imap-length day month year clock zone d m y c z = omega (arith, length-append {A = ℕ})
 
+pub imap-width : (stamp : StampParts) → CanStand stamp → length (imap_date_text stamp) ≡ 26
+unfolding imap_date_text dashed_date_text
+imap-width stamp can =
+    imap-length (day_text (civil_of stamp.day).day) (month_text (civil_of stamp.day).month) (digits_in 10 4 (civil_of stamp.day).year) (clock_text stamp.second) (zone_text stamp.zone_minutes)
+    (length-day_text (civil_of stamp.day).day) (month-reads (civil_of stamp.day).month can.month_low can.month_high).1 refl (length-clock stamp.second) (length-zone stamp.zone_minutes)
+
 -- and it stands where it was written
 pub imap-stands : (buffer : List ℕ) (place : ℕ) (stamp : StampParts) → CanStand stamp → place ≤ length buffer
     → imap_date_of (take 26 (drop place (written_at buffer place (imap_date_text stamp)))) ≡ Some stamp
-unfolding imap_date_text dashed_date_text
 imap-stands buffer place stamp can inside =
     let text = imap_date_text stamp in
-    let long : length text ≡ 26 =
-    imap-length (day_text (civil_of stamp.day).day) (month_text (civil_of stamp.day).month) (digits_in 10 4 (civil_of stamp.day).year) (clock_text stamp.second) (zone_text stamp.zone_minutes)
-    (length-day_text (civil_of stamp.day).day) (month-reads (civil_of stamp.day).month can.month_low can.month_high).1 refl (length-clock stamp.second) (length-zone stamp.zone_minutes) in
+    let long : length text ≡ 26 = imap-width stamp can in
     ap (λ n. imap_date_of (take n (drop place (written_at buffer place text)))) (sym long) ∙ ap imap_date_of (read-written buffer text place inside) ∙ imap-reads stamp can
 
 month-number-reads : (month : ℕ) → 1 ≤ month → month ≤ 12 → month_number_of (digits_in 10 2 month) ≡ Some month
@@ -194,13 +197,16 @@ mix-reads stamp can =
     refl refl refl (length-digits-clock stamp.second) (length-zone stamp.zone_minutes)
     ∙ rw (year, month, day, clock, zone, can.valid) refl
 
+pub mix-width : (stamp : StampParts) → length (mix_date_text stamp) ≡ 19
+unfolding mix_date_text
+mix-width stamp =
+    let date = civil_of stamp.day in
+    mix-length (digits_in 10 4 date.year) (digits_in 10 2 date.month) (digits_in 10 2 date.day) (digits_clock_text stamp.second) (zone_text stamp.zone_minutes)
+    refl refl refl (length-digits-clock stamp.second) (length-zone stamp.zone_minutes)
+
 pub mix-stands : (buffer : List ℕ) (place : ℕ) (stamp : StampParts) → CanStand stamp → place ≤ length buffer
     → mix_date_of (take 19 (drop place (written_at buffer place (mix_date_text stamp)))) ≡ Some stamp
-unfolding mix_date_text
 mix-stands buffer place stamp can inside =
-    let date = civil_of stamp.day in
     let text = mix_date_text stamp in
-    let long : length text ≡ 19 =
-    mix-length (digits_in 10 4 date.year) (digits_in 10 2 date.month) (digits_in 10 2 date.day) (digits_clock_text stamp.second) (zone_text stamp.zone_minutes)
-    refl refl refl (length-digits-clock stamp.second) (length-zone stamp.zone_minutes) in
+    let long : length text ≡ 19 = mix-width stamp in
     ap (λ n. mix_date_of (take n (drop place (written_at buffer place text)))) (sym long) ∙ ap mix_date_of (read-written buffer text place inside) ∙ mix-reads stamp can

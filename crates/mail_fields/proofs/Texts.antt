@@ -1,9 +1,10 @@
 -- Texts that are written into a buffer.
-use Rattle.std.proofs.Common.{◌≡◌, ℕ, ◌+◌, ◌≤◌, List, ◌++◌, length, take, drop, refl, ap, sym, ◌∙◌, arith, length-append, append_assoc}
+use Rattle.std.proofs.Common.{◌≡◌, ℕ, ◌+◌, ◌≤◌, List, [], ◌++◌, length, take, drop, refl, ap, sym, ◌∙◌, arith, length-append, append_assoc}
 use Rattle.std.proofs.lemmas.Grind.{common_steps}
 use Rattle.std.proofs.Common.{length-take-le}
 use Rattle.std.proofs.lemmas.List.{take_at, drop_at, drop-drop}
-use Rattle.std.proofs.Math.Seq.{drop-append-add}
+use Rattle.std.proofs.Math.Seq.{drop-append-add, drop-length}
+use Rattle.std.proofs.lemmas.List.{append-nil}
 use Rattle.mail_fields.specs.Texts.{written_at}
 
 -- the text stands where it was written
@@ -41,3 +42,10 @@ pub parts-written : (buffer first second third one two three : List ℕ) (place 
 parts-written buffer first second third one two three place next after a b c n f room =
     let front : second ≡ written_at buffer place (one ++ two) = b ∙ ap (λ w. written_at w next two) a ∙ then-written buffer one two place next n (omega arith) in
     c ∙ ap (λ w. written_at w after three) front ∙ then-written buffer (one ++ two) three place after (omega (arith, length-append one two)) (omega arith)
+
+-- a text that fills the buffer
+pub whole-written : (buffer text : List ℕ) → length text ≡ length buffer → written_at buffer 0 text ≡ text
+unfolding written_at
+whole-written buffer text same =
+    let all : drop (0 + length text) buffer ≡ [] = ap (λ n. drop n buffer) (omega arith) ∙ drop-length buffer in
+    ap (λ rest. text ++ rest) all ∙ append-nil text

@@ -68,6 +68,7 @@ fn spaced_zone_bytes(zone: i16) -> [u8; 6]
 pub fn put_imap_date(buf: &mut [u8], place: usize, stamp: Stamp)
     requires { place + 26 ≤ length buf.old }
     ensures text { buf.new ≡ written_at buf.old place (imap_date_text (parts_of stamp)) }
+    ensures width { length (imap_date_text (parts_of stamp)) ≡ 26 }
     ensures read { imap_date_of (take 26 (drop place buf.new)) ≡ Some (parts_of stamp) }
 {
     let date = dashed_date_bytes(civil_date(stamp));

@@ -83,6 +83,7 @@ fn digits_day_bytes(date: CivilDate) -> [u8; 8]
 pub fn put_mix_date(buf: &mut [u8], place: usize, stamp: Stamp)
     requires { place + 19 ≤ length buf.old }
     ensures text { buf.new ≡ written_at buf.old place (mix_date_text (parts_of stamp)) }
+    ensures width { length (mix_date_text (parts_of stamp)) ≡ 19 }
     ensures read { mix_date_of (take 19 (drop place buf.new)) ≡ Some (parts_of stamp) }
 {
     let date = digits_day_bytes(civil_date(stamp));

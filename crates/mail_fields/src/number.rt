@@ -29,7 +29,8 @@ fn read_front(base: u32, bytes: &[u8], width: usize) -> Option<u64>
     requires low { 2 ≤ base }
     requires high { base ≤ 16 }
     requires fits { base ^ width ≤ 2 ^ 64 }
-    ensures { result ≡ number_at_front base width bytes.now }
+    ensures value { result ≡ number_at_front base width bytes.now }
+    ensures small { IfSome result (λ number. number < base ^ width) }
 {
     if bytes.len() < width {
         return None;
@@ -42,7 +43,8 @@ fn read_front(base: u32, bytes: &[u8], width: usize) -> Option<u64>
 pub fn read_hex(bytes: &[u8], width: usize) -> Option<u64>
     requires low { 1 ≤ width }
     requires high { width ≤ 16 }
-    ensures { result ≡ number_at_front 16 width bytes.now }
+    ensures value { result ≡ number_at_front 16 width bytes.now }
+    ensures small { IfSome result (λ number. number < 16 ^ width) }
 {
     read_front(16, bytes, width)
 }
@@ -52,14 +54,17 @@ pub fn read_hex(bytes: &[u8], width: usize) -> Option<u64>
 pub fn read_octal(bytes: &[u8], width: usize) -> Option<u64>
     requires low { 1 ≤ width }
     requires high { width ≤ 21 }
-    ensures { result ≡ number_at_front 8 width bytes.now }
+    ensures value { result ≡ number_at_front 8 width bytes.now }
+    ensures small { IfSome result (λ number. number < 8 ^ width) }
 {
     read_front(8, bytes, width)
 }
 
 /// The number that all bytes write in 1 to 10 decimal digits.
+#[tactic(auto, using(crate::proofs::Digits::ten_digits))]
 pub fn read_decimal(bytes: &[u8]) -> Option<u64>
-    ensures { result ≡ decimal_of bytes.now }
+    ensures value { result ≡ decimal_of bytes.now }
+    ensures small { IfSome result (λ number. number < 10 ^ 10) }
 {
     if bytes.is_empty() || bytes.len() > 10 {
         return None;
@@ -67,7 +72,8 @@ pub fn read_decimal(bytes: &[u8]) -> Option<u64>
     read_digits(10, bytes)
 }
 
-fn hex_digit(value: u8) -> u8
+// A digit of a base up to 16, the letters in lower case.
+fn digit_byte(value: u8) -> u8
     requires { value < 16 }
     ensures { result ≡ digit_char value }
 {
@@ -78,6 +84,24 @@ fn hex_digit(value: u8) -> u8
     }
 }
 
+// Writes a number in a base, with zeros before it up to the width.
+fn put_digits(base: u64, buf: &mut [u8], place: usize, width: usize, n: u64)
+    requires low { 2 ≤ base }
+    requires high { base ≤ 16 }
+    requires room { place + width ≤ length buf.old }
+    requires fits { n < base ^ width }
+    ensures text { buf.new ≡ written_at buf.old place (digits_in base width n) }
+    ensures read { number_at_front base width (drop place buf.new) ≡ Some n }
+{
+    let mut rest = n;
+    let mut left = width;
+    while left > 0 {
+        left -= 1;
+        buf[place + left] = digit_byte((rest % base) as u8);
+        rest /= base;
+    }
+}
+
 /// Writes a number in base 16, in lower case, with zeros before it up to the width.
 pub fn put_hex(buf: &mut [u8], place: usize, width: usize, n: u64)
     requires room { place + width ≤ length buf.old }
@@ -85,13 +109,17 @@ pub fn put_hex(buf: &mut [u8], place: usize, width: usize, n: u64)
     ensures text { buf.new ≡ written_at buf.old place (digits_in 16 width n) }
     ensures read { number_at_front 16 width (drop place buf.new) ≡ Some n }
 {
-    let mut rest = n;
-    let mut left = width;
-    while left > 0 {
-        left -= 1;
-        buf[place + left] = hex_digit((rest % 16) as u8);
-        rest /= 16;
-    }
+    put_digits(16, buf, place, width, n);
+}
+
+/// Writes a number in base 8, with zeros before it up to the width.
+pub fn put_octal(buf: &mut [u8], place: usize, width: usize, n: u64)
+    requires room { place + width ≤ length buf.old }
+    requires fits { n < 8 ^ width }
+    ensures text { buf.new ≡ written_at buf.old place (digits_in 8 width n) }
+    ensures read { number_at_front 8 width (drop place buf.new) ≡ Some n }
+{
+    put_digits(8, buf, place, width, n);
 }
 
 // The last decimal digit of a number.

@@ -3,8 +3,11 @@ use Rattle.std.proofs.lemmas.Grind.{common_steps}
 use Rattle.mail_fields.specs.Texts.{written_at}
 use Rattle.mail_fields.specs.MixDate.{mix_date_text}
 use Rattle.mail_fields.specs.Stamps.{parts_of}
-use Rattle.mail_fields.proofs.ReadBack.{CanStand, mix-stands}
+use Rattle.mail_fields.proofs.ReadBack.{CanStand, mix-width, mix-stands}
 use Rattle.mail_fields.proofs.mix_date.put_mix_date.Goals as goal
+
+pub returns-clause-width : goal.returns-clause-width
+returns-clause-width c = mix-width (parts_of c.args.stamp)
 
 pub returns-clause-read : goal.returns-clause-read
 unfolding mix_date_text
