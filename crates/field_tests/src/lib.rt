@@ -2,6 +2,8 @@
 #![tactic(auto)]
 
 #[cfg(test)]
+mod changed_texts;
+#[cfg(test)]
 mod dates;
 #[cfg(test)]
 mod forms_of_texts;
@@ -9,3 +11,5 @@ mod forms_of_texts;
 mod from_dates;
 #[cfg(test)]
 mod header_fields;
+#[cfg(test)]
+mod octal_heads;
