@@ -12,4 +12,6 @@ mod from_dates;
 #[cfg(test)]
 mod header_fields;
 #[cfg(test)]
+mod mix_texts;
+#[cfg(test)]
 mod octal_heads;
