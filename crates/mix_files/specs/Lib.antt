@@ -1,0 +1,4 @@
+pub mod CrlfLines
+pub mod Metadata
+pub mod Names
+pub mod Statuses
