@@ -1,6 +1,7 @@
 //! Runs of the crates on texts, dates and fields, as tables.
 #![tactic(auto)]
 
+mod addresses;
 #[cfg(test)]
 mod changed_texts;
 #[cfg(test)]

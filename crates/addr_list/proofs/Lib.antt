@@ -1,0 +1,17 @@
+pub mod Comments
+pub mod Elements
+pub mod Examples
+pub mod Found
+pub mod Fronts
+pub mod Lists
+pub mod Mailboxes
+pub mod Maps
+pub mod Marks
+pub mod Pieces
+pub mod Readings
+pub mod Routes
+pub mod Steps
+pub mod Strings
+pub mod TokenLists
+pub mod Widths
+pub mod Words

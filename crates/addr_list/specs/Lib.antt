@@ -1,0 +1,5 @@
+pub mod Addresses
+pub mod Readers
+pub mod Reading
+pub mod Scanning
+pub mod Tokens
