@@ -1,0 +1,9 @@
+pub mod Drivers
+pub mod Flags
+pub mod Keeping
+pub mod Limits
+pub mod Lists
+pub mod Mailboxes
+pub mod Opening
+pub mod Stamps
+pub mod Stored

@@ -1,0 +1,28 @@
+-- What makes a mailbox (RFC 3501, sections 2.3.1.1 and 2.3.2).
+use Rattle.std.specs.Prelude.{ℕ, Bool, true, List, [], ◌∷◌, ◌≤◌, ◌≡◌, ◌≢◌, ◌==◌, ◌&&◌, not, nat_lt, nat_le, length}
+use Rattle.std.specs.List.{list_any, list_all}
+use Rattle.mail_fields.specs.Keyword.{same_keyword}
+use Rattle.mail_types.specs.declared.mailbox.Mailbox.{Mailbox}
+use Rattle.mail_types.specs.declared.message.Record.{Record}
+
+-- no two of these names are the same
+abbrev pub are_distinct : List (List ℕ) → Bool
+are_distinct [] = true
+are_distinct (name ∷ rest) = not (list_any (same_keyword name) rest) && are_distinct rest
+
+-- UIDs that rise strictly above one
+abbrev pub uids_rise : ℕ → List Record → Bool
+uids_rise above [] = true
+uids_rise above (r ∷ rest) = nat_lt above r.uid && uids_rise r.uid rest
+
+abbrev pub has_no_nul : List ℕ → Bool
+has_no_nul text = list_all (λ byte. not (byte == 0)) text
+
+-- a UIDVALIDITY, at most 30 keyword names, and messages by rising UID, up to the highest that was given
+pub record IsMailbox (m : Mailbox) : Type 0 where
+  pub validity : m.validity ≢ 0
+  pub few : length m.words ≤ 30
+  pub distinct : are_distinct m.words ≡ true
+  pub rise : uids_rise 0 m.records ≡ true
+  pub within : list_all (λ r. nat_le r.uid m.last) m.records ≡ true
+  pub clean : list_all (λ r. has_no_nul r.text) m.records ≡ true
