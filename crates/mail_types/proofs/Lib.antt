@@ -4,5 +4,6 @@ pub mod Dropping
 pub mod Examples
 pub mod FlagBits
 pub mod GivingUids
+pub mod Mailboxes
 pub mod Stamps
 pub mod Twice

@@ -18,9 +18,15 @@ uids_rise above (r ∷ rest) = nat_lt above r.uid && uids_rise r.uid rest
 abbrev pub has_no_nul : List ℕ → Bool
 has_no_nul text = list_all (λ byte. not (byte == 0)) text
 
+-- the greatest number of 32 bits
+abbrev pub greatest_number : ℕ
+greatest_number = 4294967295
+
 -- a UIDVALIDITY, at most 30 keyword names, and messages by rising UID, up to the highest that was given
 pub record IsMailbox (m : Mailbox) : Type 0 where
   pub validity : m.validity ≢ 0
+  pub validity_fits : m.validity ≤ greatest_number
+  pub last_fits : m.last ≤ greatest_number
   pub few : length m.words ≤ 30
   pub distinct : are_distinct m.words ≡ true
   pub rise : uids_rise 0 m.records ≡ true

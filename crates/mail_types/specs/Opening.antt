@@ -1,10 +1,11 @@
 -- The mailbox that is opened from the contents of a store.
-use Rattle.std.specs.Prelude.{ℕ, zero, suc, Bool, true, List, [], ◌∷◌, ◌+◌, ◌==◌, ◌&&◌, ◌||◌, nat_lt, nat_le, max, Option, if◌then◌else◌, length, map, unwrap_or, is_some}
+use Rattle.std.specs.Prelude.{◌≡◌, ◌≢◌, ◌≤◌, ℕ, zero, suc, Bool, true, List, [], ◌∷◌, ◌+◌, ◌==◌, ◌&&◌, ◌||◌, nat_lt, nat_le, max, Option, if◌then◌else◌, length, map, unwrap_or, is_some}
 use Rattle.std.specs.List.{list_all}
 use Rattle.mail_types.specs.declared.contents.StoreContents.{StoreContents}
 use Rattle.mail_types.specs.declared.mailbox.Mailbox.{Mailbox}
 use Rattle.mail_types.specs.declared.message.Record.{Record}
 use Rattle.mail_types.specs.declared.uids.Numbering.{Numbering}
+use Rattle.mail_types.specs.Mailboxes.{are_distinct, has_no_nul, greatest_number}
 
 -- ---- UIDs as files have them, 0 for none
 
@@ -80,3 +81,12 @@ opened_mailbox contents fresh =
       words = contents.words;
       records = with_uids (opened_uids contents.validity contents.last uids) contents.records;
     }
+
+-- contents that open as a mailbox: no UIDVALIDITY of 0, numbers of 32 bits, at most 30 names of which no two are the same, and texts without NUL
+pub record IsOpenable (contents : StoreContents) : Type 0 where
+  pub validity : unwrap_or contents.validity 1 ≢ 0
+  pub validity_fits : unwrap_or contents.validity 1 ≤ greatest_number
+  pub last_fits : highest contents.last (uids_of contents.records) ≤ greatest_number
+  pub few : length contents.words ≤ 30
+  pub distinct : are_distinct contents.words ≡ true
+  pub clean : list_all (λ r. has_no_nul r.text) contents.records ≡ true

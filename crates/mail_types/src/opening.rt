@@ -1,6 +1,7 @@
 // The mailbox that the contents of a store open as.
-ghost use Rattle.std.specs.Prelude.{◌≡◌, ◌<◌, length, IfOk};
-ghost use Rattle.mail_types.specs.Opening.{uids_of, with_uids, opened_mailbox};
+ghost use Rattle.std.specs.Prelude.{◌≡◌, ◌≢◌, ◌<◌, length, IfOk};
+ghost use Rattle.mail_types.specs.Opening.{uids_of, with_uids, opened_mailbox, IsOpenable};
+ghost use Rattle.mail_types.specs.Mailboxes.{IsMailbox};
 
 use crate::{Mailbox, Record, Records, StoreContents, number_uids};
 use std::alloc::{AllocError, Global};
@@ -30,7 +31,8 @@ fn give_uids(records: &mut [Record], uids: &[u32])
 /// `fresh` is its UIDVALIDITY where the UIDs don't last. They last in the files only once a change is written.
 pub fn opened(alloc: Global, contents: StoreContents, fresh: u32) -> Result<Mailbox, AllocError>
     requires { length contents.records < 4294967296 }
-    ensures { IfOk result (λ m. m ≡ opened_mailbox contents fresh) }
+    ensures value { IfOk result (λ m. m ≡ opened_mailbox contents fresh) }
+    ensures mailbox { IsOpenable contents → fresh ≢ 0 → IfOk result (λ m. IsMailbox m) }
 {
     let StoreContents {
         validity,

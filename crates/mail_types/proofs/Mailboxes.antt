@@ -1,0 +1,217 @@
+-- An opened mailbox is a mailbox, and so is a changed one.
+use Rattle.std.proofs.Common.{◌≡◌, ◌≢◌, ℕ, zero, suc, ◌+◌, ◌<◌, ◌≤◌, ◌==◌, Bool, true, false, ◌&&◌, ◌||◌, List, [], ◌∷◌, length, map, max, nat_lt, nat_le, Option, Some, None, unwrap_or, refl, sym, ◌∙◌, ap, subst, arith, cond, nat_eq}
+use Rattle.std.specs.List.{list_all, list_any}
+use Rattle.std.proofs.lemmas.Bool.{and_parts, false≢true}
+use Rattle.std.proofs.lemmas.Simd.{map-map}
+use Rattle.mail_types.specs.declared.contents.StoreContents.{StoreContents}
+use Rattle.mail_types.specs.declared.mailbox.Mailbox.{Mailbox}
+use Rattle.mail_types.specs.declared.message.FlagChange.{FlagChange}
+use Rattle.mail_types.specs.declared.message.Record.{Record}
+use Rattle.mail_types.specs.declared.uids.Numbering.{Numbering}
+use Rattle.mail_types.specs.Lists.{undropped, drop_records, changed_records, change_flags, cleared}
+use Rattle.mail_types.specs.Mailboxes.{uids_rise, has_no_nul, are_distinct, greatest_number, IsMailbox}
+use Rattle.mail_types.specs.Opening.{greatest, missing, rise_then_none, given_uids, numbers_from, with_uids, uids_of, highest, has_room, uids_last, opened_mailbox, IsOpenable, greatest_given}
+use Rattle.mail_types.proofs.ChangingFlags.{changed_uids, changed_texts}
+use Rattle.mail_types.proofs.Dropping.{all_left}
+
+-- ---- Rising numbers
+
+-- numbers that rise strictly above one
+abbrev rises : ℕ → List ℕ → Bool
+rises above [] = true
+rises above (u ∷ us) = nat_lt above u && rises u us
+
+both : {a b : Bool} → a ≡ true → b ≡ true → (a && b) ≡ true
+both {a} {b} is at = ap (λ x. x && b) is ∙ at
+
+rise_of_uids : (above : ℕ) (rs : List Record) → uids_rise above rs ≡ rises above (uids_of rs)
+rise_of_uids above [] = refl
+rise_of_uids above (r ∷ rs) = ap (λ b. nat_lt above r.uid && b) (rise_of_uids r.uid rs)
+
+with_are : (us : List ℕ) (rs : List Record) → length us ≡ length rs → uids_of (with_uids us rs) ≡ us
+with_are [] [] same = refl
+with_are (u ∷ us) [] same = absurd (omega (arith, same))
+with_are [] (r ∷ rs) same = absurd (omega (arith, same))
+with_are (u ∷ us) (r ∷ rs) same = ap (λ l. u ∷ l) (with_are us rs (omega (arith, same)))
+
+zeros_rise : (next : ℕ) (us : List ℕ) → list_all (λ later. later == 0) us ≡ true → rises next (given_uids (next + 1) us) ≡ true
+zeros_rise next [] all = refl
+zeros_rise next (u ∷ us) all =
+    let parts = and_parts (u == 0) (list_all (λ later. later == 0) us) all in
+    let above : nat_lt next (next + 1) ≡ true = grind arith in
+    ap (λ b. rises next (cond b ((next + 1) ∷ given_uids (next + 1 + 1) us) (u ∷ given_uids (next + 1) us))) parts.0
+    ∙ both above (zeros_rise (next + 1) us parts.1)
+
+given_rise : (above next : ℕ) (us : List ℕ) → rise_then_none above us ≡ true → above < next → greatest us < next → rises above (given_uids next us) ≡ true
+given_rise above next [] rise below great = refl
+given_rise above next (u ∷ us) rise below great = step (u == 0) refl (λ on here rest. given_rise u next us on here rest) rise
+  where
+    step : (b : Bool) → (u == 0) ≡ b → (rise_then_none u us ≡ true → u < next → greatest us < next → rises u (given_uids next us) ≡ true) → cond b (list_all (λ later. later == 0) us) (nat_lt above u && rise_then_none u us) ≡ true
+        → rises above (cond b (next ∷ given_uids (next + 1) us) (u ∷ given_uids next us)) ≡ true
+    step true is later all = let e : nat_lt above next ≡ true = grind arith in both e (zeros_rise next us all)
+    step false is later on =
+        let parts = and_parts (nat_lt above u) (rise_then_none u us) on in
+        let here : u < next = let g : max u (greatest us) < next = great in omega (arith, g) in
+        let rest : greatest us < next = let g : max u (greatest us) < next = great in omega (arith, g) in
+        both parts.0 (later parts.1 here rest)
+
+numbers_rise : (k n : ℕ) → rises k (numbers_from (k + 1) n) ≡ true
+numbers_rise k zero = refl
+numbers_rise k (suc n) = let e : nat_lt k (k + 1) ≡ true = grind arith in both e (numbers_rise (k + 1) n)
+
+-- ---- Numbers within a bound
+
+given_within : (next last : ℕ) (us : List ℕ) → greatest us ≤ last → next + missing us ≤ last + 1 → list_all (λ u. nat_le u last) (given_uids next us) ≡ true
+given_within next last [] great room = refl
+given_within next last (u ∷ us) great room = step (u == 0) refl
+    (λ space. given_within (next + 1) last us (omega (arith, great)) space) (λ space. given_within next last us (omega (arith, great)) space) room
+  where
+    step : (b : Bool) → (u == 0) ≡ b → (next + 1 + missing us ≤ last + 1 → list_all (λ u. nat_le u last) (given_uids (next + 1) us) ≡ true)
+        → (next + missing us ≤ last + 1 → list_all (λ u. nat_le u last) (given_uids next us) ≡ true)
+        → next + cond b (1 + missing us) (missing us) ≤ last + 1
+        → list_all (λ u. nat_le u last) (cond b (next ∷ given_uids (next + 1) us) (u ∷ given_uids next us)) ≡ true
+    step true is one two space = let e : nat_le next last ≡ true = grind arith in both e (one (omega (arith, space)))
+    step false is one two space = let g : max u (greatest us) ≤ last = great in let e : nat_le u last ≡ true = grind arith in both e (two space)
+
+numbers_within : (k n last : ℕ) → k + n ≤ last + 1 → list_all (λ u. nat_le u last) (numbers_from k n) ≡ true
+numbers_within k zero last room = refl
+numbers_within k (suc n) last room = let e : nat_le k last ≡ true = grind arith in both e (numbers_within (k + 1) n last (omega (arith, room)))
+
+all_of_uids : (test : ℕ → Bool) (rs : List Record) → list_all (λ r. test r.uid) rs ≡ list_all test (uids_of rs)
+all_of_uids test [] = refl
+all_of_uids test (r ∷ rs) = ap (λ b. test r.uid && b) (all_of_uids test rs)
+
+all_of_texts : (test : List ℕ → Bool) (rs : List Record) → list_all (λ r. test r.text) rs ≡ list_all test (map (λ r. r.text) rs)
+all_of_texts test [] = refl
+all_of_texts test (r ∷ rs) = ap (λ b. test r.text && b) (all_of_texts test rs)
+
+with_texts : (us : List ℕ) (rs : List Record) → length us ≡ length rs → map (λ r. r.text) (with_uids us rs) ≡ map (λ r. r.text) rs
+with_texts [] [] same = refl
+with_texts (u ∷ us) [] same = absurd (omega (arith, same))
+with_texts [] (r ∷ rs) same = absurd (omega (arith, same))
+with_texts (u ∷ us) (r ∷ rs) same = ap (λ l. r.text ∷ l) (with_texts us rs (omega (arith, same)))
+
+-- ---- Opening
+
+numbers_count : (k n : ℕ) → length (numbers_from k n) ≡ n
+numbers_count k zero = refl
+numbers_count k (suc n) = ap (λ m. suc m) (numbers_count (k + 1) n)
+
+given_count : (k : ℕ) (us : List ℕ) → length (given_uids k us) ≡ length us
+given_count k [] = refl
+given_count k (u ∷ us) = step (u == 0) (given_count (k + 1) us) (given_count k us)
+  where
+    step : (b : Bool) → length (given_uids (k + 1) us) ≡ length us → length (given_uids k us) ≡ length us → length (cond b (k ∷ given_uids (k + 1) us) (u ∷ given_uids k us)) ≡ suc (length us)
+    step true one two = ap (λ n. suc n) one
+    step false one two = ap (λ n. suc n) two
+
+uids_count : (rs : List Record) → length (uids_of rs) ≡ length rs
+uids_count [] = refl
+uids_count (r ∷ rs) = ap (λ n. suc n) (uids_count rs)
+
+-- a mailbox of these messages under rising UIDs
+made : (validity last : ℕ) (words : List (List ℕ)) (us : List ℕ) (rs : List Record) → validity ≢ 0 → validity ≤ greatest_number → last ≤ greatest_number → length words ≤ 30 → are_distinct words ≡ true
+    → list_all (λ r. has_no_nul r.text) rs ≡ true → length us ≡ length rs → rises 0 us ≡ true → list_all (λ u. nat_le u last) us ≡ true
+    → IsMailbox (record { validity = validity; last = last; words = words; records = with_uids us rs })
+made validity last words us rs lasts fits high few distinct clean same rise within = record {
+  validity = lasts;
+  validity_fits = fits;
+  last_fits = high;
+  few = few;
+  distinct = distinct;
+  rise = rise_of_uids 0 (with_uids us rs) ∙ ap (rises 0) (with_are us rs same) ∙ rise;
+  within = all_of_uids (λ u. nat_le u last) (with_uids us rs) ∙ ap (list_all (λ u. nat_le u last)) (with_are us rs same) ∙ within;
+  clean = all_of_texts has_no_nul (with_uids us rs) ∙ ap (list_all has_no_nul) (with_texts us rs same) ∙ sym (all_of_texts has_no_nul rs) ∙ clean;
+}
+
+roomy : (last : ℕ) (us : List ℕ) → highest last us ≤ greatest_number → has_room last us ≡ true → highest last us + missing us ≤ greatest_number
+roomy last us fits room = step (missing us == 0) refl room
+  where
+    step : (b : Bool) → (missing us == 0) ≡ b → (b || nat_le (highest last us + missing us) greatest_given) ≡ true → highest last us + missing us ≤ greatest_number
+    step true is space = let none : missing us ≡ 0 = grind arith in omega (arith, fits, none)
+    step false is space = let below : highest last us + missing us ≤ greatest_given = grind arith in omega (arith, below)
+
+abbrev numbering_if : Bool → Option ℕ → ℕ → List ℕ → ℕ → Numbering
+numbering_if b v last us fresh = cond b (record { validity = unwrap_or v fresh; last = highest last us + missing us }) (record { validity = fresh; last = length us })
+
+pub opened_is_mailbox : (c : StoreContents) (fresh : ℕ) → length c.records < 4294967296 → IsOpenable c → fresh ≢ 0 → fresh < 4294967296 → IsMailbox (opened_mailbox c fresh)
+opened_is_mailbox c fresh many is some fits = step c.validity is.validity is.validity_fits (uids_last c.validity c.last (uids_of c.records)) refl
+  where
+    step : (v : Option ℕ) → unwrap_or v 1 ≢ 0 → unwrap_or v 1 ≤ greatest_number → (b : Bool) → uids_last v c.last (uids_of c.records) ≡ b
+        → IsMailbox (record {
+          validity = (numbering_if b v c.last (uids_of c.records) fresh).validity;
+          last = (numbering_if b v c.last (uids_of c.records) fresh).last;
+          words = c.words;
+          records = with_uids (cond b (given_uids (highest c.last (uids_of c.records) + 1) (uids_of c.records)) (numbers_from 1 (length (uids_of c.records)))) c.records;
+        })
+    step None given below true lasts = absurd (false≢true lasts)
+    step (Some v) given below true lasts =
+        let us = uids_of c.records in
+        let parts = and_parts (rise_then_none 0 us) (has_room c.last us) lasts in
+        let high : greatest us < highest c.last us + 1 = let m : highest c.last us ≡ max c.last (greatest us) = refl in omega (arith, m) in
+        let last : highest c.last us + missing us ≤ greatest_number = roomy c.last us is.last_fits parts.1 in
+        made v (highest c.last us + missing us) c.words (given_uids (highest c.last us + 1) us) c.records given below last is.few is.distinct is.clean
+        (given_count (highest c.last us + 1) us ∙ uids_count c.records) (given_rise 0 (highest c.last us + 1) us parts.0 (omega arith) high)
+        (given_within (highest c.last us + 1) (highest c.last us + missing us) us (omega (arith, high)) (omega arith))
+    step v given below false lasts =
+        let us = uids_of c.records in
+        made fresh (length us) c.words (numbers_from 1 (length us)) c.records some (omega (arith, fits)) (omega (arith, uids_count c.records, many)) is.few is.distinct is.clean
+        (numbers_count 1 (length us) ∙ uids_count c.records) (numbers_rise 0 (length us)) (numbers_within 1 (length us) (length us) (omega arith))
+
+-- ---- Changes
+
+-- the same UIDs and texts, under another list of names
+same_messages : (m : Mailbox) (words : List (List ℕ)) (rs : List Record) → IsMailbox m → length words ≤ 30 → are_distinct words ≡ true
+    → uids_of rs ≡ uids_of m.records → map (λ r. r.text) rs ≡ map (λ r. r.text) m.records
+    → IsMailbox (record { validity = m.validity; last = m.last; words = words; records = rs })
+same_messages m words rs is few distinct uids texts = record {
+  validity = is.validity;
+  validity_fits = is.validity_fits;
+  last_fits = is.last_fits;
+  few = few;
+  distinct = distinct;
+  rise = rise_of_uids 0 rs ∙ ap (rises 0) uids ∙ sym (rise_of_uids 0 m.records) ∙ is.rise;
+  within = all_of_uids (λ u. nat_le u m.last) rs ∙ ap (list_all (λ u. nat_le u m.last)) uids ∙ sym (all_of_uids (λ u. nat_le u m.last) m.records) ∙ is.within;
+  clean = all_of_texts has_no_nul rs ∙ ap (list_all has_no_nul) texts ∙ sym (all_of_texts has_no_nul m.records) ∙ is.clean;
+}
+
+pub changed_is_mailbox : (m : Mailbox) (changes : List FlagChange) (words : List (List ℕ)) → IsMailbox m → length words ≤ 30 → are_distinct words ≡ true → IsMailbox (change_flags m changes words)
+changed_is_mailbox m changes words is few distinct =
+    let old = map (cleared (length m.words) (length words)) m.records in
+    same_messages m words (changed_records (length words) 0 changes old) is few distinct
+    (changed_uids (length words) 0 changes old ∙ map-map (λ r. r.uid) (cleared (length m.words) (length words)) m.records)
+    (changed_texts (length words) 0 changes old ∙ map-map (λ r. r.text) (cleared (length m.words) (length words)) m.records)
+
+lower_rise : (low high : ℕ) (rs : List Record) → low ≤ high → uids_rise high rs ≡ true → uids_rise low rs ≡ true
+lower_rise low high [] below rise = refl
+lower_rise low high (r ∷ rs) below rise =
+    let parts = and_parts (nat_lt high r.uid) (uids_rise r.uid rs) rise in
+    let e : nat_lt low r.uid ≡ true = let p : nat_lt high r.uid ≡ true = parts.0 in grind arith in
+    both e parts.1
+
+dropped_rise : (above i : ℕ) (places : List ℕ) (rs : List Record) → uids_rise above rs ≡ true → uids_rise above (undropped i places rs) ≡ true
+dropped_rise above i places [] rise = refl
+dropped_rise above i places (r ∷ rs) rise =
+    let parts = and_parts (nat_lt above r.uid) (uids_rise r.uid rs) rise in
+    let up : above ≤ r.uid = let p : nat_lt above r.uid ≡ true = parts.0 in grind arith in
+    step (list_any (nat_eq i) places) parts.0 (dropped_rise r.uid (i + 1) places rs parts.1) (lower_rise above r.uid (undropped (i + 1) places rs) up (dropped_rise r.uid (i + 1) places rs parts.1))
+  where
+    step : (b : Bool) → nat_lt above r.uid ≡ true → uids_rise r.uid (undropped (i + 1) places rs) ≡ true → uids_rise above (undropped (i + 1) places rs) ≡ true
+        → uids_rise above (cond b (undropped (i + 1) places rs) (r ∷ undropped (i + 1) places rs)) ≡ true
+    step true here kept gone = gone
+    step false here kept gone = both here kept
+
+pub dropped_is_mailbox : (m : Mailbox) (places : List ℕ) → IsMailbox m → IsMailbox (drop_records m places)
+dropped_is_mailbox m places is = record {
+  validity = is.validity;
+  validity_fits = is.validity_fits;
+  last_fits = is.last_fits;
+  few = is.few;
+  distinct = is.distinct;
+  rise = dropped_rise 0 0 places m.records is.rise;
+  within = all_left (λ r. nat_le r.uid m.last) 0 places m.records is.within;
+  clean = all_left (λ r. has_no_nul r.text) 0 places m.records is.clean;
+}
+
+pub read_is_mailbox : (c : StoreContents) (fresh : ℕ) (m : Mailbox) → m ≡ opened_mailbox c fresh → length c.records < 4294967296 → fresh < 4294967296 → IsOpenable c → fresh ≢ 0 → IsMailbox m
+read_is_mailbox c fresh m same many fits is some = subst IsMailbox (sym same) (opened_is_mailbox c fresh many is some fits)
