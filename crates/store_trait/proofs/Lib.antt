@@ -1,0 +1,5 @@
+pub mod Elsewhere
+pub mod Examples
+pub mod Meant
+pub mod RunOn
+pub mod Sizes

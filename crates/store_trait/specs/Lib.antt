@@ -1,0 +1,9 @@
+pub mod Answers
+pub mod Changes
+pub mod Commits
+pub mod Laws
+pub mod Meaning
+pub mod OwnPaths
+pub mod Promises
+pub mod Runs
+pub mod Views

@@ -1,0 +1,148 @@
+-- What the clauses of `Store` and `Format` say, each as a record of facts.
+-- `was` and `is` are the views of a store at a call's start and end, `old` and `new` the host's histories.
+use Rattle.std.specs.Prelude.{ℕ, true, false, List, ◌≡◌, ◌≤◌, ◌+◌, ◌-◌, ◌⊎◌, ◌↔◌, min, take, drop, length, Result, Ok, Err, OnOk, IsErrOf, IsTrue}
+use Rattle.file_model.specs.Causes.{Faults}
+use Rattle.file_model.specs.Disk.{seen}
+use Rattle.file_model.specs.Images.{Image}
+use Rattle.file_model.specs.Kept.{NonePending, Keeps, Sees}
+use Rattle.file_model.specs.Histories.{History, Now, Ran, Ended}
+use Rattle.mail_types.specs.declared.contents.StoreContents.{StoreContents}
+use Rattle.mail_types.specs.declared.driver.Driver.{Driver}
+use Rattle.mail_types.specs.declared.mailbox.Mailbox.{Mailbox}
+use Rattle.mail_types.specs.Drivers.{keeps_of}
+use Rattle.mail_types.specs.Mailboxes.{has_no_nul}
+use Rattle.mail_types.specs.Opening.{opened_mailbox}
+use Rattle.mail_types.specs.Stored.{empty_mailbox, created_contents}
+use Rattle.store_trait.specs.declared.change.Change.{Change}
+use Rattle.store_trait.specs.declared.faults.OpenFault.{OpenFault}
+use Rattle.store_trait.specs.declared.faults.OpenFault.TheVariants.{Failed as OpenFailed, Memory as OpenMemory}
+use Rattle.store_trait.specs.declared.faults.StoreFault.{StoreFault}
+use Rattle.store_trait.specs.declared.faults.StoreFault.TheVariants.{Failed, Broken}
+use Rattle.store_trait.specs.Answers.{Answers, Breaks, Refuses}
+use Rattle.store_trait.specs.Changes.{changed_mailbox, changed_contents, due_refusal, is_nothing, changed_meaning, IsSized}
+use Rattle.store_trait.specs.Commits.{IsDurable, LeavesEither, LeavesNoneOr, LeavesNoneOrAll, IsNowhere}
+use Rattle.store_trait.specs.Meaning.{HasNoDataFile, IsWritten, Means}
+use Rattle.store_trait.specs.OwnPaths.{IsOwn, IsForeign, is_crash_safe, reads_in_place}
+use Rattle.store_trait.specs.Views.{View, Grammar, size_at, text_at}
+
+-- ---- What every call on a store leaves
+
+-- the store is that of the same mailbox
+pub record IsSame (was is : View) : Type 0 where
+  pub driver : is.driver ≡ was.driver
+  pub path : is.path ≡ was.path
+
+-- it stands where it stood, for the same mailbox
+pub record IsUnchanged (was is : View) : Type 0 where
+  pub summary : is.summary ≡ was.summary
+  pub stands : (image : Image) → was.stands image → is.stands image
+  pub mailbox : (image : Image) → is.mailbox image ≡ was.mailbox image
+
+-- a store is broken from the first answer of Failed or Memory on
+pub record BreaksBy {T : Type 0} (was is : View) (result : Result T StoreFault) : Type 0 where
+  pub broken : IsTrue is.broken ↔ (IsTrue was.broken ⊎ Breaks result)
+  pub refused : IsErrOf result Broken ↔ IsTrue was.broken
+
+-- a store can be asked: it is broken, or at its paths stand the files that its last call left
+abbrev pub CanAsk : View → History → Type 0
+CanAsk was old = IsTrue was.broken ⊎ Now old (λ w. was.stands (seen w.disk))
+
+-- ---- Reading a text
+
+-- n bytes of the text at a place stand at the buffer's start, from a place in the text on
+pub record GivesText (was : View) (place from : ℕ) (before after : List ℕ) (old : History) (n : ℕ) : Type 0 where
+  pub count : n ≡ min (length after) (size_at was.summary place - from)
+  pub bytes : Now old (λ w. take n after ≡ take n (drop from (text_at (was.mailbox (seen w.disk)) place)))
+  -- also on a host that isn't modelled
+  pub clean : has_no_nul (take n after) ≡ true
+  pub rest : drop n after ≡ drop n before
+
+-- the drivers that read in place read no more than they give
+abbrev pub ReadsInPlace : View → (place from room : ℕ) → Faults → Faults → History → Type 0
+ReadsInPlace was place from room before after old =
+    IsTrue (reads_in_place was.driver) → Now old (λ w. after.read ≤ before.read + min room (size_at was.summary place - from))
+
+-- ---- All else
+
+-- at each instant each image that a crash may leave agrees with one of the start, but for the mailbox's own paths
+abbrev pub LeavesRest : Driver → List ℕ → History → History → Type 0
+LeavesRest driver path old new = Now old (λ w. NonePending w.disk) → Ran (Keeps (IsForeign driver path)) old new
+
+-- after every answer but Failed reads see the same there
+abbrev pub SeesRest : {T : Type 0} → Driver → List ℕ → Result T StoreFault → History → History → Type 0
+SeesRest driver path result old new = (IsErrOf result Failed → ⊥) → Ended (Sees (IsForeign driver path)) old new
+
+-- what a call on the mailbox at a path leaves alone; where it ends well, no directory operation is pending
+pub record LeavesAlone {T : Type 0} (driver : Driver) (path : List ℕ) (result : Result T StoreFault) (old new : History) : Type 0 where
+  pub instants : LeavesRest driver path old new
+  pub sees : SeesRest driver path result old new
+  pub none_pending : Now old (λ w. NonePending w.disk) → OnOk result (Now new (λ w. NonePending w.disk))
+
+-- ---- A change
+
+-- Which answer comes: Broken exactly from a store that is broken, else the refusal that is due, by what the files say and the store stands for.
+-- A call that is given nothing does nothing.
+pub record AnswersChange (grammar : Driver → List ℕ → Grammar) (was : View) (change : Change) (result : Result (Unit {0}) StoreFault) (old new : History) : Type 0 where
+  pub due : was.broken ≡ false → Now old (λ w. (before : StoreContents) → IsWritten (grammar was.driver was.path) (seen w.disk) before
+      → Answers (due_refusal (grammar was.driver was.path).written_length was.driver before (was.mailbox (seen w.disk)) change) result)
+  pub nothing : IsTrue (is_nothing was.summary.words change) → (new ≡ old) × (was.broken ≡ false → result ≡ Ok tt)
+
+-- the files say what is stored of the changed mailbox, and that is what opening finds
+abbrev pub Stores : (grammar : Driver → List ℕ → Grammar) → (was : View) → Change → (start end : Image) → Type 0
+Stores grammar was change start end = (before : StoreContents) → IsWritten (grammar was.driver was.path) start before
+    → IsWritten (grammar was.driver was.path) end (changed_contents was.driver before (was.mailbox start) change)
+    × (is_nothing (was.mailbox start).words change ≡ false
+    → Means (grammar was.driver was.path) was.driver was.path end (changed_meaning (grammar was.driver was.path).written_length was.driver before (was.mailbox start) change))
+
+-- What stands afterwards: the changed mailbox, in the store and in the files; and after a refusal all as it was.
+pub record ChangesStore (grammar : Driver → List ℕ → Grammar) (was is : View) (change : Change) (result : Result (Unit {0}) StoreFault) (old new : History) : Type 0 where
+  pub done : OnOk result (Ended (λ start end. is.mailbox (seen end) ≡ changed_mailbox (keeps_of was.driver) (was.mailbox (seen start)) change) old new)
+  pub sized : OnOk result (IsSized was.summary change is.summary)
+  pub stored : OnOk result (Ended (λ start end. Stores grammar was change (seen start) (seen end)) old new)
+  pub stands : OnOk result (Now new (λ w. is.stands (seen w.disk)))
+  pub refused : Refuses result → (new ≡ old) × IsUnchanged was is
+
+-- Of the driver whose changes survive a crash: at each instant a crash leaves the mailbox before the change or after it, and after Ok the one after it alone.
+pub record CommitsChange (grammar : Driver → List ℕ → Grammar) (was : View) (change : Change) (result : Result (Unit {0}) StoreFault) (old new : History) : Type 0 where
+  pub instants : IsTrue (is_crash_safe was.driver) → (before : StoreContents) (prior : Mailbox)
+      → Now old (λ w. IsDurable was.driver was.path w.disk × Means (grammar was.driver was.path) was.driver was.path (seen w.disk) (Ok before) × (prior ≡ was.mailbox (seen w.disk)))
+      → Ran (λ start instant. LeavesEither (λ image contents. Means (grammar was.driver was.path) was.driver was.path image (Ok contents)) before (changed_contents was.driver before prior change) instant) old new
+  pub durable : IsTrue (is_crash_safe was.driver) → Now old (λ w. IsDurable was.driver was.path w.disk) → OnOk result (Now new (λ w. IsDurable was.driver was.path w.disk))
+
+-- ---- Opening
+
+-- a refusal to open has its cause at the path, unless a call failed or memory lacked
+abbrev pub RefusesOpen : Grammar → Driver → List ℕ → OpenFault → History → Type 0
+RefusesOpen grammar driver path OpenFailed old = Unit {0}
+RefusesOpen grammar driver path OpenMemory old = Unit {0}
+RefusesOpen grammar driver path fault old = Now old (λ w. Means grammar driver path (seen w.disk) (Err fault))
+
+-- an open store that isn't broken, of a driver at a path
+pub record IsOpenAt (driver : Driver) (path : List ℕ) (is : View) : Type 0 where
+  pub driver_is : is.driver ≡ driver
+  pub path_is : is.path ≡ path
+  pub broken : is.broken ≡ false
+
+-- a store that was opened stands for the mailbox that the files open as
+abbrev pub Opens : Grammar → Driver → List ℕ → (is : View) → (fresh : ℕ) → History → Type 0
+Opens grammar driver path is fresh old =
+    Now old (λ w. (contents : StoreContents) × Means grammar driver path (seen w.disk) (Ok contents) × (is.mailbox (seen w.disk) ≡ opened_mailbox contents fresh) × is.stands (seen w.disk))
+
+-- ---- Creation and removal
+
+-- a created store stands for the empty mailbox
+abbrev pub Creates : Grammar → Driver → List ℕ → (is : View) → (fresh : ℕ) → History → Type 0
+Creates grammar driver path is fresh new =
+    Now new (λ w. Means grammar driver path (seen w.disk) (Ok (created_contents driver fresh)) × (is.mailbox (seen w.disk) ≡ empty_mailbox fresh) × is.stands (seen w.disk) × HasNoDataFile driver path (seen w.disk))
+
+-- of the driver that promises it: at each instant of a creation a crash leaves no mailbox, or the empty one
+pub record CommitsCreation {T : Type 0} (grammar : Grammar) (driver : Driver) (path : List ℕ) (fresh : ℕ) (result : Result T StoreFault) (old new : History) : Type 0 where
+  pub instants : IsTrue (is_crash_safe driver) → Now old (λ w. NonePending w.disk × IsNowhere path w.disk)
+      → Ran (λ start instant. LeavesNoneOr (λ image contents. Means grammar driver path image (Ok contents)) path (created_contents driver fresh) instant) old new
+  pub durable : IsTrue (is_crash_safe driver) → Now old (λ w. NonePending w.disk × IsNowhere path w.disk) → OnOk result (Now new (λ w. IsDurable driver path w.disk))
+
+-- of the same: at each instant of a removal, of an ill-formed mailbox too, a crash leaves its files as they were, or no mailbox
+pub record CommitsRemoval (driver : Driver) (path : List ℕ) (result : Result (Unit {0}) StoreFault) (old new : History) : Type 0 where
+  pub instants : IsTrue (is_crash_safe driver) → Now old (λ w. IsDurable driver path w.disk)
+      → Ran (λ start instant. LeavesNoneOrAll path (IsOwn driver path) (seen start) instant) old new
+  pub durable : IsTrue (is_crash_safe driver) → Now old (λ w. IsDurable driver path w.disk) → OnOk result (Now new (λ w. NonePending w.disk × IsNowhere path w.disk))
