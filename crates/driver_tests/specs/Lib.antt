@@ -1,0 +1,2 @@
+pub mod BrokenStore
+pub mod EitherStore
