@@ -1,5 +1,6 @@
 pub mod Adding
 pub mod ChangingFlags
+pub mod CleanTexts
 pub mod Dropping
 pub mod Examples
 pub mod FlagBits

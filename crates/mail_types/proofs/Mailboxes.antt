@@ -1,16 +1,20 @@
 -- An opened mailbox is a mailbox, and so is a changed one.
-use Rattle.std.proofs.Common.{◌≡◌, ◌≢◌, ℕ, zero, suc, ◌+◌, ◌<◌, ◌≤◌, ◌==◌, Bool, true, false, ◌&&◌, ◌||◌, List, [], ◌∷◌, length, map, max, nat_lt, nat_le, Option, Some, None, unwrap_or, refl, sym, ◌∙◌, ap, subst, arith, cond, nat_eq}
+use Rattle.std.proofs.Common.{◌≡◌, ◌≢◌, ℕ, zero, suc, ◌+◌, ◌<◌, ◌≤◌, ◌==◌, Bool, true, false, ◌&&◌, ◌||◌, List, [], ◌∷◌, ◌++◌, length, map, max, nat_lt, nat_le, Option, Some, None, unwrap_or, refl, sym, ◌∙◌, ap, subst, arith, cond, nat_eq}
 use Rattle.std.specs.List.{list_all, list_any}
 use Rattle.std.proofs.lemmas.Bool.{and_parts, false≢true}
+use Rattle.std.proofs.lemmas.List.Folds.{list_all-append}
 use Rattle.std.proofs.lemmas.Simd.{map-map}
 use Rattle.mail_types.specs.declared.contents.StoreContents.{StoreContents}
 use Rattle.mail_types.specs.declared.mailbox.Mailbox.{Mailbox}
+use Rattle.mail_types.specs.declared.driver.Keeps.{Keeps}
 use Rattle.mail_types.specs.declared.message.FlagChange.{FlagChange}
+use Rattle.mail_types.specs.declared.message.NewMessage.{NewMessage}
 use Rattle.mail_types.specs.declared.message.Record.{Record}
 use Rattle.mail_types.specs.declared.uids.Numbering.{Numbering}
-use Rattle.mail_types.specs.Lists.{undropped, drop_records, changed_records, change_flags, cleared}
+use Rattle.mail_types.specs.Lists.{undropped, drop_records, changed_records, change_flags, cleared, added_records, add_messages}
 use Rattle.mail_types.specs.Mailboxes.{uids_rise, has_no_nul, are_distinct, greatest_number, IsMailbox}
 use Rattle.mail_types.specs.Opening.{greatest, missing, rise_then_none, given_uids, numbers_from, with_uids, uids_of, highest, has_room, uids_last, opened_mailbox, IsOpenable, greatest_given}
+use Rattle.mail_types.proofs.CleanTexts.{form_is_clean}
 use Rattle.mail_types.proofs.ChangingFlags.{changed_uids, changed_texts}
 use Rattle.mail_types.proofs.Dropping.{all_left}
 
@@ -215,3 +219,51 @@ dropped_is_mailbox m places is = record {
 
 pub read_is_mailbox : (c : StoreContents) (fresh : ℕ) (m : Mailbox) → m ≡ opened_mailbox c fresh → length c.records < 4294967296 → fresh < 4294967296 → IsOpenable c → fresh ≢ 0 → IsMailbox m
 read_is_mailbox c fresh m same many fits is some = subst IsMailbox (sym same) (opened_is_mailbox c fresh many is some fits)
+
+-- rising UIDs, and then more that rise above them
+append_rise : (above last : ℕ) (xs ys : List Record) → above ≤ last → uids_rise above xs ≡ true → list_all (λ r. nat_le r.uid last) xs ≡ true → uids_rise last ys ≡ true → uids_rise above (xs ++ ys) ≡ true
+append_rise above last [] ys below rise within more = lower_rise above last ys below more
+append_rise above last (r ∷ xs) ys below rise within more =
+    let parts = and_parts (nat_lt above r.uid) (uids_rise r.uid xs) rise in
+    let bound = and_parts (nat_le r.uid last) (list_all (λ r. nat_le r.uid last) xs) within in
+    let here : r.uid ≤ last = let b : nat_le r.uid last ≡ true = bound.0 in grind arith in
+    both parts.0 (append_rise r.uid last xs ys here parts.1 bound.1 more)
+
+added_rise : (keeps : Keeps) (names last : ℕ) (new : List NewMessage) → uids_rise last (added_records keeps names (last + 1) new) ≡ true
+added_rise keeps names last [] = refl
+added_rise keeps names last (x ∷ new) = let e : nat_lt last (last + 1) ≡ true = grind arith in both e (added_rise keeps names (last + 1) new)
+
+added_within : (keeps : Keeps) (names next last : ℕ) (new : List NewMessage) → next + length new ≤ last + 1 → list_all (λ r. nat_le r.uid last) (added_records keeps names next new) ≡ true
+added_within keeps names next last [] room = refl
+added_within keeps names next last (x ∷ new) room = let e : nat_le next last ≡ true = grind arith in both e (added_within keeps names (next + 1) last new (omega (arith, room)))
+
+added_clean : (keeps : Keeps) (names next : ℕ) (new : List NewMessage) → list_all (λ (x : NewMessage). has_no_nul x.text) new ≡ true → list_all (λ (r : Record). has_no_nul r.text) (added_records keeps names next new) ≡ true
+added_clean keeps names next [] all = refl
+added_clean keeps names next (x ∷ new) all =
+    let parts = and_parts (has_no_nul x.text) (list_all (λ (x : NewMessage). has_no_nul x.text) new) all in
+    both (form_is_clean keeps.text x.text parts.0) (added_clean keeps names (next + 1) new parts.1)
+
+wider : (last more : ℕ) (rs : List Record) → list_all (λ r. nat_le r.uid last) rs ≡ true → list_all (λ r. nat_le r.uid (last + more)) rs ≡ true
+wider last more [] all = refl
+wider last more (r ∷ rs) all =
+    let parts = and_parts (nat_le r.uid last) (list_all (λ r. nat_le r.uid last) rs) all in
+    let e : nat_le r.uid (last + more) ≡ true = let b : nat_le r.uid last ≡ true = parts.0 in grind arith in
+    both e (wider last more rs parts.1)
+
+pub added_is_mailbox : (keeps : Keeps) (m : Mailbox) (new : List NewMessage) (words : List (List ℕ)) → IsMailbox m → length words ≤ 30 → are_distinct words ≡ true
+    → list_all (λ (x : NewMessage). has_no_nul x.text) new ≡ true → m.last + length new ≤ greatest_number → IsMailbox (add_messages keeps m new words)
+added_is_mailbox keeps m new words is few distinct clean room =
+    let old = map (cleared (length m.words) (length words)) m.records in
+    let added = added_records keeps (length words) (m.last + 1) new in
+    let same = same_messages m words old is few distinct (map-map (λ r. r.uid) (cleared (length m.words) (length words)) m.records) (map-map (λ r. r.text) (cleared (length m.words) (length words)) m.records) in
+    record {
+      validity = is.validity;
+      validity_fits = is.validity_fits;
+      last_fits = room;
+      few = few;
+      distinct = distinct;
+      rise = append_rise 0 m.last old added (omega arith) same.rise same.within (added_rise keeps (length words) m.last new);
+      within = list_all-append (λ r. nat_le r.uid (m.last + length new)) old added
+          ∙ both (wider m.last (length new) old same.within) (added_within keeps (length words) (m.last + 1) (m.last + length new) new (omega arith));
+      clean = list_all-append (λ r. has_no_nul r.text) old added ∙ both same.clean (added_clean keeps (length words) (m.last + 1) new clean);
+    }
