@@ -32,6 +32,7 @@ pub is_grammar : (driver : Driver) (path : List ℕ) → IsGrammar driver path (
 is_grammar driver path = record {
   own_files = λ one other contents records agree written. absurd written;
   one_reading = λ image one other few many first second. absurd first;
+  counts = λ file image contents records written. absurd written;
 }
 
 pub can_write : (info : Info) → CanWrite no_grammar (broken_view info)

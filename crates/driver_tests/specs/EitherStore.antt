@@ -34,6 +34,7 @@ pub spoilt_is_grammar : (driver : Driver) (path : List ℕ) → IsGrammar driver
 spoilt_is_grammar driver path = record {
   own_files = λ one other contents records agree written. absurd written;
   one_reading = λ image one other few many first second. absurd first;
+  counts = λ file image contents records written. absurd written;
 }
 
 pub spoilt_can_write : (info : Info) → CanWrite spoilt_grammar (spoilt_view info)

@@ -8,7 +8,7 @@ use Rattle.file_model.specs.Kept.{Sees, NonePending}
 use Rattle.file_model.specs.Causes.{Faults, OnlyFiles}
 use Rattle.file_model.specs.Histories.{History, Now, Ended}
 use Rattle.file_model.proofs.Calls.{ran_keeps, sees_trans}
-use Rattle.file_model.proofs.Runs.{now_weaker}
+use Rattle.file_model.proofs.Runs.{now_weaker, ran_then}
 use Rattle.mail_types.specs.declared.driver.Driver.{Driver}
 use Rattle.mail_types.specs.declared.driver.Keeps.{Keeps as KeepsTable}
 use Rattle.mail_types.specs.declared.mailbox.Mailbox.{Mailbox}
@@ -20,7 +20,7 @@ use Rattle.store_trait.specs.Answers.{Answers, breaks}
 use Rattle.store_trait.specs.Changes.{changed_mailbox, changed_contents, words_after, due_refusal, IsSized}
 use Rattle.store_trait.specs.Meaning.{IsWritten}
 use Rattle.store_trait.specs.OwnPaths.{IsForeign}
-use Rattle.store_trait.specs.Promises.{LeavesRest, IsSame, IsUnchanged, AnswersChange}
+use Rattle.store_trait.specs.Promises.{LeavesRest, RanOnFiles, IsSame, IsUnchanged, AnswersChange}
 use Rattle.store_trait.specs.Runs.{CanRun, all_changed, all_contents}
 use Rattle.store_trait.specs.Views.{Summary, View, Grammar}
 
@@ -86,6 +86,10 @@ module _ (cs : List Change) (n : ℕ) (c : Change) (below : n < length cs) (at :
       x y z (ended_both _ _ x y done one)
       (subst (λ p. Ended (λ start end. (before : StoreContents) → written_as d p (seen start) before → written_as d p (seen end) (changed_contents d before (mid (seen start)) c)) y z) alike
       (subst (λ d. Ended (λ start end. (before : StoreContents) → written_as d q (seen start) before → written_as d q (seen end) (changed_contents d before (mid (seen start)) c)) y z) same two))
+
+-- a run changes files alone
+pub files_on : (x y z : History) → RanOnFiles x y → RanOnFiles y z → RanOnFiles x z
+files_on x y z one two = ran_then (λ a. tt) (λ a b r. r) (λ a b c r s. tt) x y z one two
 
 -- what else a run leaves
 pub rest_on : (d e : Driver) (p q : List ℕ) (x y z : History) → e ≡ d → q ≡ p → (Now x (λ w. NonePending w.disk) → Now y (λ w. NonePending w.disk)) → LeavesRest d p x y → LeavesRest e q y z → LeavesRest d p x z

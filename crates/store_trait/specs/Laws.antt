@@ -1,5 +1,5 @@
 -- The laws of a store's view and of a driver's grammar.
-use Rattle.std.specs.Prelude.{ℕ, List, ◌≡◌, false, Some, None, length}
+use Rattle.std.specs.Prelude.{ℕ, List, ◌≡◌, ◌≤◌, false, Some, None, length}
 use Rattle.std.specs.List.{AllByRecursion}
 use Rattle.file_model.specs.Images.{Image, bytes_at}
 use Rattle.mail_fields.specs.Keyword.{IsKeyword}
@@ -18,10 +18,12 @@ pub record IsView (grammar : Driver → List ℕ → Grammar) (v : View) : Type 
   pub stays : (one other : Image) → AgreeAt (IsOwn v.driver v.path) other one → v.stands one → v.stands other × (v.mailbox other ≡ v.mailbox one)
   pub written : (image : Image) → v.stands image → (contents : StoreContents) × IsWritten (grammar v.driver v.path) image contents
 
--- the files at a path are written as at most one contents, and the own paths are all that it rests on
+-- The files at a path are written as at most one contents, and the own paths are all that it rests on.
+-- A mailbox in one file has a record for each message; a pseudo message and a marked record count too.
 pub record IsGrammar (driver : Driver) (path : List ℕ) (grammar : Grammar) : Type 0 where
   pub own_files : (one other : Image) (contents : StoreContents) (records : ℕ) → AgreeAt (IsOwn driver path) other one → grammar.written_as one contents records → grammar.written_as other contents records
   pub one_reading : (image : Image) (one other : StoreContents) (few many : ℕ) → grammar.written_as image one few → grammar.written_as image other many → (one ≡ other) × (few ≡ many)
+  pub counts : is_directory_driver driver ≡ false → (image : Image) (contents : StoreContents) (records : ℕ) → grammar.written_as image contents records → length contents.records ≤ records
 
 -- the length of a mailbox's one file
 abbrev pub HasLength : Driver → List ℕ → Image → ℕ → Type 0

@@ -72,8 +72,13 @@ LeavesRest driver path old new = Now old (λ w. NonePending w.disk) → Ran (Kee
 abbrev pub SeesRest : {T : Type 0} → Driver → List ℕ → Result T StoreFault → History → History → Type 0
 SeesRest driver path result old new = (IsErrOf result Failed → ⊥) → Ended (Sees (IsForeign driver path)) old new
 
+-- a call changes files alone: nothing is heard or said
+abbrev pub RanOnFiles : History → History → Type 0
+RanOnFiles old new = Ran (λ start instant. Unit {0}) old new
+
 -- what a call on the mailbox at a path leaves alone; where it ends well, no directory operation is pending
 pub record LeavesAlone {T : Type 0} (driver : Driver) (path : List ℕ) (result : Result T StoreFault) (old new : History) : Type 0 where
+  pub files : RanOnFiles old new
   pub instants : LeavesRest driver path old new
   pub sees : SeesRest driver path result old new
   pub none_pending : Now old (λ w. NonePending w.disk) → OnOk result (Now new (λ w. NonePending w.disk))

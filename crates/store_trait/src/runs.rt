@@ -10,7 +10,7 @@ ghost use Rattle.store_trait.specs.Answers.{StoreCause, breaks};
 ghost use Rattle.store_trait.specs.Changes.{CanChangeStore, due_refusal};
 ghost use Rattle.store_trait.specs.Meaning.{IsWritten};
 ghost use Rattle.store_trait.specs.OwnPaths.{IsForeign};
-ghost use Rattle.store_trait.specs.Promises.{IsSame, BreaksBy, CanAsk, LeavesAlone, LeavesRest, AnswersChange, ChangesStore, CommitsChange};
+ghost use Rattle.store_trait.specs.Promises.{IsSame, BreaksBy, CanAsk, LeavesAlone, LeavesRest, RanOnFiles, AnswersChange, ChangesStore, CommitsChange};
 ghost use Rattle.store_trait.specs.Runs.{CanRun, EndsWell, run_failed, all_changed, all_contents, done_of};
 
 use crate::{Change, Store, StoreFault};
@@ -71,6 +71,7 @@ pub fn run<F: Files, S: Store<F>>(
     ensures stands { EndsWell result → CanAsk (S.view store.new) (F.history files.new) }
 
     // What it leaves alone.
+    ensures files { RanOnFiles (F.history files.old) (F.history files.new) }
     ensures instants { LeavesRest (S.view store.old).driver (S.view store.old).path (F.history files.old) (F.history files.new) }
     ensures sees { EndsWell result → Ended (Sees (IsForeign (S.view store.old).driver (S.view store.old).path)) (F.history files.old) (F.history files.new) }
 {

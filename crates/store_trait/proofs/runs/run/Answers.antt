@@ -6,13 +6,16 @@ use Rattle.file_model.specs.Histories.{Ended}
 use Rattle.mail_types.specs.declared.contents.StoreContents.{StoreContents}
 use Rattle.store_trait.specs.Runs.{all_contents}
 use Rattle.store_trait.specs.Meaning.{IsWritten}
-use Rattle.store_trait.proofs.RunOn.{can_on, does_on, stores_on, rest_on, sees_on, counts_on, ended_weaker, refused_due, still_whole}
+use Rattle.store_trait.proofs.RunOn.{can_on, does_on, stores_on, rest_on, sees_on, counts_on, ended_weaker, refused_due, still_whole, files_on}
 use Rattle.store_trait.proofs.runs.run.Goals as goal
 
 pub returns-in-Err-clause-instants : goal.returns-in-Err-clause-instants
 returns-in-Err-clause-instants g c =
     let i = c.loop-number.invariant in
     rest_on _ _ _ _ _ _ _ i.same.driver i.same.path i.none_pending i.instants c.change_store.ensures.leaves.instants
+
+pub returns-in-Err-clause-files : goal.returns-in-Err-clause-files
+returns-in-Err-clause-files g c = files_on _ _ _ c.loop-number.invariant.files c.change_store.ensures.leaves.files
 
 pub returns-in-Err-clause-due : goal.returns-in-Err-clause-due
 returns-in-Err-clause-due g c = λ refused whole.
@@ -52,6 +55,7 @@ loop-number-preserved g c =
           i.same.driver i.same.path i.done i.stored (ended_weaker _ _ (λ a b stored before is. (stored before is).0) y z e.changes.stored);
       file = e.cause.stays refl ∙ i.file;
       counts = counts_on _ _ _ i.counts e.cause.counts;
+      files = files_on x y z i.files e.leaves.files;
       instants = rest_on was.driver mid.driver was.path mid.path x y z i.same.driver i.same.path i.none_pending i.instants e.leaves.instants;
       none_pending = λ at_rest. e.leaves.none_pending (i.none_pending at_rest);
       sees = sees_on was.driver mid.driver was.path mid.path x y z i.same.driver i.same.path i.sees (e.leaves.sees (λ never. cc));

@@ -7,7 +7,7 @@ use Rattle.mail_types.specs.declared.contents.StoreContents.{StoreContents}
 use Rattle.mail_types.specs.Drivers.{keeps_of}
 use Rattle.store_trait.specs.Meaning.{IsWritten}
 use Rattle.store_trait.specs.OwnPaths.{IsForeign}
-use Rattle.store_trait.specs.Promises.{IsSame, CanAsk, LeavesRest}
+use Rattle.store_trait.specs.Promises.{IsSame, CanAsk, LeavesRest, RanOnFiles}
 use Rattle.store_trait.specs.Runs.{CanRun, all_changed, all_contents}
 use Rattle.store_trait.proofs.runs.run.Given as goal
 
@@ -25,6 +25,7 @@ invariant-loop-number g l =
           (g.F.Files.history l.fn.files) (g.F.Files.history l.files);
       file : (g.F.Files.faults l.files).file ≡ (g.F.Files.faults l.fn.files).file;
       counts : OnlyFiles (g.F.Files.faults l.fn.files) (g.F.Files.faults l.files);
+      files : RanOnFiles (g.F.Files.history l.fn.files) (g.F.Files.history l.files);
       instants : LeavesRest (g.S.Store.view l.fn.store).driver (g.S.Store.view l.fn.store).path (g.F.Files.history l.fn.files) (g.F.Files.history l.files);
       none_pending : Now (g.F.Files.history l.fn.files) (λ w. NonePending w.disk) → Now (g.F.Files.history l.files) (λ w. NonePending w.disk);
       sees : Ended (Sees (IsForeign (g.S.Store.view l.fn.store).driver (g.S.Store.view l.fn.store).path)) (g.F.Files.history l.fn.files) (g.F.Files.history l.files);
