@@ -4,7 +4,7 @@ use Rattle.std.specs.List.{Contains}
 use Rattle.imap_grammar.specs.Stream.{units_of, unfinished}
 use Rattle.file_model.specs.Images.{Image}
 use Rattle.file_model.specs.Disk.{Disk, MayLeave}
-use Rattle.file_model.specs.Kept.{IsLeftOrMade}
+use Rattle.file_model.specs.Kept.{IsLeftOrMade, NonePending}
 use Rattle.file_model.specs.Histories.{World, History, Now, Passed, instant}
 use Rattle.file_model.specs.Arrived.{Arrived, worlds_since, heard_since}
 use Rattle.std.specs.FinMap.{empty}
@@ -34,7 +34,7 @@ at_first root P [] holds = tt
 at_first root P (start ∷ past) holds = holds (first_state root start.disk) refl
 
 -- the state never changes yet
-same_state : (state : State) (lines : List (List ℕ)) → state_after step state lines ≡ state
+pub same_state : (state : State) (lines : List (List ℕ)) → state_after step state lines ≡ state
 same_state state [] = refl
 same_state state (line ∷ lines) = same_state state lines
 
@@ -48,7 +48,7 @@ pub crash_left : (root : List ℕ) (old new : History)
 crash_left root [] new survives = tt
 crash_left root (start ∷ past) new survives = λ world among image left.
     let state = first_state root start.disk in
-    let found = survives state refl (may_make_none (inbox_of root) start.disk) world among image left 0 in
+    let found = survives state refl (record { left = may_make_none (inbox_of root) start.disk; durable = λ none. none }) world among image left 0 in
     subst (λ s. Agrees s image) (same_state state (take found.n (commands protocol start world))) found.agreed
 
 -- the clauses on instants, of a run that answers no line
@@ -118,6 +118,7 @@ is_served_as root path end a b is =
       said = is.said;
       inbox = stands.1.inbox;
       elsewhere = stands.1.elsewhere;
+      durable = subst (λ s. NonePending s.first → NonePending b.disk) (same_state state (commands protocol a b)) (is.still_alike (record { left = may_make_none (inbox_of root) a.disk; durable = λ none. none })).durable;
       is_status = λ open_still. ap status_of_end (is.is_end open_still) ∙ regular (has_last ends (units_of (heard_since a b))) b.streams.ended (unfinished (heard_since a b));
       is_long = long end (heard_since a b) is.is_long;
     }

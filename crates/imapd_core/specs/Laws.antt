@@ -12,7 +12,7 @@ use Rattle.imapd_core.specs.Replies.{protocol, counted_at, status_reply, reply_o
 
 -- what every crash leaves, each image has
 pub is_kept : IsKept protocol
-is_kept disk state alike image left = alike.each image left
+is_kept disk state alike image left = alike.left.each image left
 
 -- the units are the grammar's
 pub of_grammar : (protocol.units_of ≡ units_of) × (protocol.unfinished ≡ unfinished)

@@ -2,7 +2,7 @@
 use Rattle.std.specs.Prelude.{ℕ, Bool, true, false, List, ◌++◌, ◌≡◌, ◌≢◌, nat_le, length, codes, decimal}
 use Rattle.file_model.specs.Images.{Image, Node, nothing, file, directory, node_at}
 use Rattle.file_model.specs.Disk.{Disk, seen}
-use Rattle.file_model.specs.Kept.{Sees, IsLeftOrMade, MayMake}
+use Rattle.file_model.specs.Kept.{Sees, IsLeftOrMade, MayMake, NonePending}
 use Rattle.imap_grammar.specs.Stream.{units_of, unfinished}
 use Rattle.session_loop.specs.Machine.{Answered, Protocol}
 use Rattle.unix_store.specs.declared.mailbox.Counted.{Counted}
@@ -58,9 +58,10 @@ pub record IsSeen (disk : Disk) (state : State) : Type 0 where
 abbrev pub StandsFor : List ℕ → Disk → State → Type 0
 StandsFor path disk state = (state.inbox ≡ path) × IsSeen disk state
 
--- what a crash leaves was there as the call began, but that an INBOX may have been made
-abbrev pub IsAlike : State → Disk → Type 0
-IsAlike state disk = MayMake state.inbox state.first disk
+-- What a crash leaves was there as the call began, but that an INBOX may have been made. No directory operation is pending where none was.
+pub record IsAlike (state : State) (disk : Disk) : Type 0 where
+  pub left : MayMake state.inbox state.first disk
+  pub durable : NonePending state.first → NonePending disk
 
 abbrev pub Agrees : State → Image → Type 0
 Agrees state image = IsLeftOrMade state.inbox state.first image

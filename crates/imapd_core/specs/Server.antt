@@ -1,9 +1,10 @@
 -- The top call: the root, the first state, and the opening's answers.
-use Rattle.std.specs.Prelude.{ℕ, Bool, ◌&&◌, not, nat_le, nat_eq, length, List, [], ◌++◌, ◌≡◌, ◌≢◌, ◌≤◌, codes, true, false, Result, Ok, Err, IsErrOf}
+use Rattle.std.specs.Prelude.{ℕ, Bool, ◌&&◌, not, nat_le, nat_eq, length, List, [], ◌++◌, ◌≡◌, ◌≢◌, ◌≤◌, ◌⊎◌, codes, true, false, Result, Ok, Err, IsErrOf}
 use Rattle.std.specs.List.{list_any}
-use Rattle.file_model.specs.Images.{Node, nothing, file, directory, node_at}
+use Rattle.file_model.specs.Images.{Image, Node, nothing, file, directory, node_at}
 use Rattle.file_model.specs.Disk.{Disk, seen}
-use Rattle.file_model.specs.Kept.{Sees, MayMake}
+use Rattle.file_model.specs.Kept.{Sees, MayMake, NonePending, Leaves}
+use Rattle.file_model.specs.Histories.{World}
 use Rattle.file_model.specs.Causes.{Faults, Rose}
 use Rattle.imapd_core.specs.declared.opening.NoSession.{NoSession}
 use Rattle.imapd_core.specs.declared.opening.NoSession.TheVariants.{Words, FileFault, Memory}
@@ -26,11 +27,21 @@ first_node directory = directory
 abbrev pub first_state : List ℕ → Disk → State
 first_state root disk = record { inbox = inbox_of root; node = first_node (node_at (seen disk) (inbox_of root)); first = disk }
 
--- INBOX was made where nothing stood: a crash leaves what was there, or that and an empty INBOX, and reads see it made and all else as it was
+-- INBOX was made where nothing stood: a crash leaves what was there, or that and an empty INBOX, and reads see it made and all else as it was.
+-- Its directory is settled.
 pub record IsMade (path : List ℕ) (old new : Disk) : Type 0 where
   pub left : MayMake path old new
+  pub durable : NonePending old → NonePending new
   pub inbox : node_at (seen new) path ≡ first_node (node_at (seen old) path)
   pub elsewhere : Sees (λ q. q ≢ path) old new
+
+-- something stands at INBOX
+abbrev pub HasInbox : List ℕ → Image → Type 0
+HasInbox root image = node_at image (inbox_of root) ≢ nothing
+
+-- Nothing is said before INBOX is settled: where no directory operation was pending at the start, a crash that finds any byte said leaves something there.
+abbrev pub IsSettled : List ℕ → World → World → Type 0
+IsSettled root start world = NonePending start.disk → (world.streams.said ≡ start.streams.said) ⊎ Leaves (HasInbox root) world.disk
 
 -- no line
 abbrev pub NoLines : List (List ℕ)

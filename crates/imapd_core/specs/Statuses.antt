@@ -5,7 +5,7 @@ use Rattle.file_model.specs.Histories.{World}
 use Rattle.file_model.specs.Causes.{Faults, Rose}
 use Rattle.file_model.specs.Images.{node_at}
 use Rattle.file_model.specs.Disk.{seen}
-use Rattle.file_model.specs.Kept.{Sees}
+use Rattle.file_model.specs.Kept.{Sees, NonePending}
 use Rattle.file_model.specs.Arrived.{heard_since, said_since}
 use Rattle.session_loop.specs.declared.end.End.{End}
 use Rattle.session_loop.specs.declared.end.End.TheVariants.{Done as End-Done, Cut as End-Cut, Long as End-Long, HearFault as End-HearFault, SayFault as End-SayFault, FileFault as End-FileFault, Memory as End-Memory}
@@ -67,6 +67,7 @@ pub record IsServedAs (root : List ℕ) (status : Status) (start world : World) 
   pub said : said_since start world ≡ greeting ++ replies step (first_state root start.disk) (commands protocol start world)
   pub inbox : node_at (seen world.disk) (inbox_of root) ≡ first_node (node_at (seen start.disk) (inbox_of root))
   pub elsewhere : Sees (λ path. path ≢ inbox_of root) start.disk world.disk
+  pub durable : NonePending start.disk → NonePending world.disk
   pub is_status : start.streams.ended ≡ false → status ≡ regular_status (has_last ends (units_of (heard_since start world))) world.streams.ended (unfinished (heard_since start world))
   pub is_long : status ≡ Long → length (heard_since start world) ≡ 2 ^ 40
 

@@ -8,7 +8,7 @@ ghost use Rattle.file_model.specs.Histories.{World, Now, instant};
 ghost use Rattle.file_model.specs.Arrived.{Arrived, worlds_since};
 ghost use Rattle.session_loop.specs.Headline.{SaysReplies, IsBounded};
 ghost use Rattle.imapd_core.specs.Replies.{protocol};
-ghost use Rattle.imapd_core.specs.Server.{inbox_of, first_state, is_word};
+ghost use Rattle.imapd_core.specs.Server.{inbox_of, first_state, is_word, IsSettled};
 ghost use Rattle.imapd_core.specs.Statuses.{status_of_end, status_of_none, StatusCause, WasServed, HasRoot, IsServedAs};
 
 use crate::opening::{NoSession, open};
@@ -71,6 +71,11 @@ pub fn imapd<H: Host>(alloc: Global, words: &[String], host: &mut H, moment: u32
         → Now (H.history host.old) (λ start. (world : World) → Contains (worlds_since (instant (H.history host.old)) (H.history host.new)) world
         → (image : Image) → MayLeave world.disk image → IsLeftOrMade (inbox_of root) start.disk image) }
 
+    // Nothing is said before an INBOX that was made is settled.
+    ensures settled { (root : List ℕ) → map string_bytes words.now ≡ root ∷ []
+        → Now (H.history host.old) (λ start. (world : World) → Contains (worlds_since (instant (H.history host.old)) (H.history host.new)) world
+        → IsSettled root start world) }
+
     // Whatever the status, at most 2^40 bytes were heard, and each turn but the last heard at least one.
     ensures bounded { Now (H.history host.old) (λ start. (world : World) → Contains (worlds_since (instant (H.history host.old)) (H.history host.new)) world
         → IsBounded start world) }
@@ -129,6 +134,8 @@ fn serve_root<H: Host>(alloc: Global, host: &mut H, root: &str) -> Status
     ensures served { WasServed result → Arrived (IsServedAs root.now result) (H.history host.old) (H.history host.new) }
     ensures crash { Now (H.history host.old) (λ start. (world : World) → Contains (worlds_since (instant (H.history host.old)) (H.history host.new)) world
         → (image : Image) → MayLeave world.disk image → IsLeftOrMade (inbox_of root.now) start.disk image) }
+    ensures settled { Now (H.history host.old) (λ start. (world : World) → Contains (worlds_since (instant (H.history host.old)) (H.history host.new)) world
+        → IsSettled root.now start world) }
     ensures bounded { Now (H.history host.old) (λ start. (world : World) → Contains (worlds_since (instant (H.history host.old)) (H.history host.new)) world
         → IsBounded start world) }
     ensures words { result ≡ Status.Words → Now (H.history host.old) (λ w. is_directory (seen w.disk) root.now ≡ false) }

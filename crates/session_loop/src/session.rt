@@ -36,6 +36,10 @@ pub fn serve<H: Host, S: Answers<H>>(
 
     // The session may have been opened by a run that began earlier, at `first`.
 
+    // What holds at each instant. The clauses below say the same in the words of the main promise.
+    ensures instants { (first : History) (state : S.State) → Opened S.protocol (S.stands session.old) state first (H.history host.old)
+        → Passed (Serving S.protocol state) first (H.history host.new) }
+
     // At each instant what was said begins the greeting and the replies to all units heard, and no reply waited for a `hear`.
     ensures said { (first : History) (state : S.State) → Opened S.protocol (S.stands session.old) state first (H.history host.old)
         → Now first (λ start. (world : World) → Contains (worlds_since (instant first) (H.history host.new)) world

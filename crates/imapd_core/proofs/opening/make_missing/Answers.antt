@@ -1,20 +1,11 @@
 use Rattle.std.proofs.Common.{◌≡◌, ℕ, sym, ◌∙◌, subst}
 use Rattle.file_model.specs.declared.files.Kind.TheVariants.{Nothing, File, Dir}
-use Rattle.file_model.specs.Disk.{make, seen}
-use Rattle.file_model.specs.Histories.{GoesOn, Now}
+use Rattle.file_model.specs.Disk.{seen}
+use Rattle.file_model.specs.Images.{node_at, nothing}
+use Rattle.file_model.specs.Histories.{Now}
 use Rattle.file_model.specs.Kinds.{CanMake}
-use Rattle.imapd_core.proofs.Opened.{made_ran, made_now, nothing_now, there_ended, inbox_makes}
+use Rattle.imapd_core.proofs.Opened.{nothing_now, there_ended, inbox_makes}
 use Rattle.imapd_core.proofs.opening.make_missing.Goals as goal
-
-pub returns-in-Nothing-clause-instants : goal.returns-in-Nothing-clause-instants
-returns-in-Nothing-clause-instants g c =
-    made_ran c.args.path.now c.make.result _ _ (g.met.F.Files.sound c.args.files.now) (nothing_now c.args.path.now c.in_ok-stat.field-0 _ c.in-Nothing.is c.in_ok-stat.ensures.kind)
-    (subst (λ h. GoesOn (make c.args.path.now) c.make.result h (g.F.Files.history c.make.new.self)) c.in_ok-stat.ensures.same c.make.ensures.goes_on)
-
-pub returns-in-Nothing-clause-made : goal.returns-in-Nothing-clause-made
-returns-in-Nothing-clause-made g c =
-    made_now c.args.path.now c.make.result _ _ (g.met.F.Files.sound c.args.files.now) (nothing_now c.args.path.now c.in_ok-stat.field-0 _ c.in-Nothing.is c.in_ok-stat.ensures.kind)
-    (subst (λ h. GoesOn (make c.args.path.now) c.make.result h (g.F.Files.history c.make.new.self)) c.in_ok-stat.ensures.same c.make.ensures.goes_on)
 
 file_there : (len : ℕ) → File len ≡ Nothing → ⊥
 file_there len is = cc
@@ -30,7 +21,12 @@ pub returns-in-Dir-clause-made : goal.returns-in-Dir-clause-made
 returns-in-Dir-clause-made g c =
     there_ended c.args.path.now c.in_ok-stat.field-0 _ _ (λ none. directory_there (sym c.in-Dir.is ∙ none)) c.in_ok-stat.ensures.kind c.in_ok-stat.ensures.same
 
-pub make-requires : goal.make-requires
-make-requires g c =
+pub make_settled-requires-clause-nothing : goal.make_settled-requires-clause-nothing
+make_settled-requires-clause-nothing g c =
+    subst (λ h. Now h (λ w. node_at (seen w.disk) c.args.path.now ≡ nothing)) (sym c.in_ok-stat.ensures.same)
+    (nothing_now c.args.path.now c.in_ok-stat.field-0 _ c.in-Nothing.is c.in_ok-stat.ensures.kind)
+
+pub make_settled-requires-clause-can : goal.make_settled-requires-clause-can
+make_settled-requires-clause-can g c =
     subst (λ h. Now h (λ w. CanMake (seen w.disk) c.args.path.now)) (sym c.in_ok-stat.ensures.same)
     (inbox_makes c.args.path.now (g.F.Files.history c.args.files.now) c.requires.below c.requires.room (nothing_now c.args.path.now c.in_ok-stat.field-0 _ c.in-Nothing.is c.in_ok-stat.ensures.kind))

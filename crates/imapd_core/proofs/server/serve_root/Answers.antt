@@ -1,11 +1,12 @@
 use Rattle.std.proofs.Common.{refl, sym, subst, string_bytes}
 use Rattle.std.specs.List.{Contains}
-use Rattle.file_model.specs.Histories.{World, instant}
+use Rattle.file_model.specs.Histories.{World, Passed, instant}
 use Rattle.file_model.specs.Arrived.{Arrived, worlds_since}
 use Rattle.session_loop.specs.Headline.{SaysReplies, IsBounded}
 use Rattle.imapd_core.specs.Replies.{protocol}
 use Rattle.imapd_core.specs.Statuses.{WasServed, IsServedAs}
 use Rattle.imapd_core.proofs.Served.{at_first, crash_left, opening_said, opening_bounded, opening_crash, some_state, opened_at, served_as}
+use Rattle.imapd_core.proofs.Settled.{LeavesSince, serving_leaves, session_settled, quiet_settled, settled_since}
 use Rattle.imapd_core.proofs.server.serve_root.Goals as goal
 
 pub serve-requires : goal.serve-requires
@@ -43,3 +44,13 @@ returns-in-Err-clause-bounded g c = opening_bounded c.args.root.now _ _ c.open.e
 
 pub returns-in-Err-clause-crash : goal.returns-in-Err-clause-crash
 returns-in-Err-clause-crash g c = opening_crash c.args.root.now _ _ c.open.ensures.instants
+
+pub returns-in-Ok-clause-settled : goal.returns-in-Ok-clause-settled
+returns-in-Ok-clause-settled g c =
+    let path = string_bytes c.in-Ok.inbox.path in
+    let leaves = subst (λ p. Passed (LeavesSince p) (g.H.Files.history c.open.new.files) (g.H.Files.history c.serve.new.host)) c.in-Ok.ensures.path
+    (serving_leaves path _ _ (λ state is. c.serve.ensures.instants _ state is)) in
+    settled_since c.args.root.now _ _ (session_settled c.args.root.now _ _ _ c.open.ensures.runs c.in-Ok.ensures.made leaves)
+
+pub returns-in-Err-clause-settled : goal.returns-in-Err-clause-settled
+returns-in-Err-clause-settled g c = settled_since c.args.root.now _ _ (quiet_settled c.args.root.now _ _ c.open.ensures.runs)

@@ -16,6 +16,11 @@ was_said : (result : Result (Unit {0}) Failed) (test : Bool) → test ≡ is_err
 was_said (Ok u) test is none = refl
 was_said (Err e) test is none = absurd (cc)
 
+pub returns-then-is_err-clause-instants : goal.returns-then-is_err-clause-instants
+returns-then-is_err-clause-instants g c first state is =
+    let s = g.S.Answers in
+    say_passed s.protocol (s.stands c.args.session.now) state c.say.result first _ _ g.met.S.Answers.is_kept is (spoken _ _ c.say.result _ _ c.requires.greeting c.say.ensures.says)
+
 pub returns-then-is_err-clause-said : goal.returns-then-is_err-clause-said
 returns-then-is_err-clause-said g c first state is =
     let s = g.S.Answers in
@@ -36,6 +41,14 @@ returns-then-is_err-clause-crash g c first state is =
     let law = g.met.S.Answers.is_kept in
     crash_since s.protocol state first _ law g.met.S.Answers.says_something (λ stream later. first_units s.protocol.units_of stream later g.met.S.Answers.of_grammar.0 (units_first later stream))
     (say_passed s.protocol (s.stands c.args.session.now) state c.say.result first _ _ law is (spoken _ _ c.say.result _ _ c.requires.greeting c.say.ensures.says))
+
+pub returns-clause-instants : goal.returns-clause-instants
+returns-clause-instants g c first state is =
+    let s = g.S.Answers in
+    let said = subst (λ r. Says s.protocol.greeting r (g.H.Files.history c.args.host.now) (g.H.Files.history c.say.new.self)) (was_said c.say.result c.is_err.result c.is_err.ensures.value c.if-is_err.false) (spoken _ _ c.say.result _ _ c.requires.greeting c.say.ensures.says) in
+    c.converse.ensures.instants first state c.new-feed.ensures
+    (say_passed s.protocol (s.stands c.args.session.now) state c.say.result first _ _ g.met.S.Answers.is_kept is (spoken _ _ c.say.result _ _ c.requires.greeting c.say.ensures.says))
+    (say_arrived s.protocol (s.stands c.args.session.now) state tt first _ _ (ap (λ u. u []) g.met.S.Answers.of_grammar.0) is said)
 
 pub returns-clause-said : goal.returns-clause-said
 returns-clause-said g c first state is =
