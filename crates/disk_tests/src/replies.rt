@@ -8,6 +8,7 @@ ghost use Rattle.file_model.specs.Kinds.{IsTarget};
 ghost use Rattle.mem_host.specs.State.{history_of};
 
 use crate::acknowledged::replace_and_say;
+use file_model::Fault;
 use mem_host::MemHost;
 use std::alloc::{AllocError, Global};
 use std::test::Fail;
@@ -19,6 +20,29 @@ fn with_old(alloc: Global, failing: u64) -> Result<MemHost, AllocError>
 {
     let mut host = MemHost::new(alloc, b"", &[], &[failing])?;
     host.put_file("/mail/inbox", b"old")?;
+    Ok(host)
+}
+
+// A directory stands at the path where the new content is written first.
+fn with_obstacle(alloc: Global) -> Result<MemHost, AllocError>
+    ensures room { IfOk result (λ host. Now (history_of host) (λ w. is_directory (seen w.disk) (codes "/mail") ≡ true)) }
+    ensures target { IfOk result (λ host. Now (history_of host) (λ w. IsTarget (seen w.disk) (codes "/mail/inbox"))) }
+    ensures durable { IfOk result (λ host. Now (history_of host) (λ w. NonePending w.disk)) }
+{
+    let mut host = MemHost::new(alloc, b"", &[], &[])?;
+    host.put_dir("/mail/.newinbox")?;
+    host.put_file("/mail/inbox", b"old")?;
+    Ok(host)
+}
+
+// A directory stands at a name that files of programs have.
+fn with_reserved(alloc: Global) -> Result<MemHost, AllocError>
+    ensures room { IfOk result (λ host. Now (history_of host) (λ w. is_directory (seen w.disk) (codes "/mail") ≡ true)) }
+    ensures target { IfOk result (λ host. Now (history_of host) (λ w. IsTarget (seen w.disk) (codes "/mail/.mixindex"))) }
+    ensures durable { IfOk result (λ host. Now (history_of host) (λ w. NonePending w.disk)) }
+{
+    let mut host = MemHost::new(alloc, b"", &[], &[])?;
+    host.put_dir("/mail/.mixindex")?;
     Ok(host)
 }
 
@@ -51,5 +75,29 @@ fn a_reply_follows_the_new_content(rt: HostRuntime) -> Result<(), Fail> {
     for (failing, ended) in RUNS {
         assert!(rt; run(rt.alloc(), failing)? == ended);
     }
+    Ok(())
+}
+
+// A run in which nothing is replaced: one call failed, and nothing was said.
+fn is_refused(host: &MemHost, answer: Result<(), Fault>) -> bool {
+    answer == Err(Fault::Failed) && host.file_faults() == 1 && host.said().is_empty()
+}
+
+fn obstructed(alloc: Global) -> Result<bool, AllocError> {
+    let mut host = with_obstacle(alloc)?;
+    let answer = replace_and_say(alloc, &mut host, "/mail/inbox", b"new!", b"ok\r\n");
+    Ok(is_refused(&host, answer) && host.file("/mail/inbox") == Some(b"old".as_slice()))
+}
+
+fn reserved(alloc: Global) -> Result<bool, AllocError> {
+    let mut host = with_reserved(alloc)?;
+    let answer = replace_and_say(alloc, &mut host, "/mail/.mixindex", b"new!", b"ok\r\n");
+    Ok(is_refused(&host, answer) && host.file("/mail/.mixindex").is_none())
+}
+
+#[test]
+fn a_directory_in_the_way_stays(rt: HostRuntime) -> Result<(), Fail> {
+    assert!(rt; obstructed(rt.alloc())?);
+    assert!(rt; reserved(rt.alloc())?);
     Ok(())
 }
