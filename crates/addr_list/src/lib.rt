@@ -2,6 +2,7 @@
 //!
 //! `addresses` reads an unfolded field body: first its tokens, where blanks and comments are skipped,
 //! then their list. Comments and groups are counted, so no depth of them costs stack.
+//! `comment_length`, `quotes_length` and `push_unquoted` read comments and quoted strings for other fields too.
 //! Stands on `mail_fields` for bytes, and on `memchr` for the end of a domain literal.
 #![tactic(auto)]
 
@@ -17,3 +18,5 @@ mod word;
 
 pub use address::Address;
 pub use list::addresses;
+pub use span::{comment_length, quotes_length};
+pub use word::push_unquoted;

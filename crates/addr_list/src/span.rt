@@ -4,8 +4,8 @@ ghost use Rattle.addr_list.specs.Scanning.{comment_len, literal_len, quotes_len}
 
 use memchr::memchr;
 
-// The length of a comment's text, behind its opening parenthesis and up to the one that closes it.
-pub(crate) fn comment_length(text: &[u8]) -> Option<usize>
+/// The length of a comment's text, behind its opening parenthesis and up to the one that closes it.
+pub fn comment_length(text: &[u8]) -> Option<usize>
     ensures value { result ≡ comment_len false 0 text.now }
     ensures within { IfSome result (λ n. n < length text.now) }
 {
@@ -28,8 +28,8 @@ pub(crate) fn comment_length(text: &[u8]) -> Option<usize>
     None
 }
 
-// The length of what a quoted string has behind its first quote and before its last.
-pub(crate) fn quotes_length(text: &[u8]) -> Option<usize>
+/// The length of what a quoted string has behind its first quote and before its last.
+pub fn quotes_length(text: &[u8]) -> Option<usize>
     ensures value { result ≡ quotes_len false text.now }
     ensures within { IfSome result (λ n. n < length text.now) }
 {

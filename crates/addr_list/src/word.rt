@@ -20,8 +20,8 @@ fn ends_dot(bytes: &[u8]) -> bool
     !bytes.is_empty() && bytes[bytes.len() - 1] == b'.'
 }
 
-// Appends what a quoted string stands for.
-fn push_unquoted(out: &mut Vec<u8>, inner: &[u8]) -> Result<(), AllocError>
+/// Appends what a quoted string stands for, without the backslash of each pair.
+pub fn push_unquoted(out: &mut Vec<u8>, inner: &[u8]) -> Result<(), AllocError>
     ensures { OnOk result (out.new.items ≡ out.old.items ++ unquoted inner.now) }
 {
     let mut escaped = false;

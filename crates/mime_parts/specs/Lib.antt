@@ -1,0 +1,5 @@
+pub mod Contents
+pub mod Delimiters
+pub mod Parts
+pub mod Readers
+pub mod Values
