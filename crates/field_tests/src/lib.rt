@@ -16,3 +16,5 @@ mod header_fields;
 mod mix_texts;
 #[cfg(test)]
 mod octal_heads;
+#[cfg(test)]
+mod status_fields;

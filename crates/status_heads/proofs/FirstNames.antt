@@ -1,0 +1,48 @@
+-- The first names of a value: at most 30, and no two the same.
+use Rattle.std.proofs.Common.{◌≡◌, ℕ, ◌≤◌, ⊎_elim, Bool, true, false, not, List, [], ◌∷◌, ◌++◌, length, length-append, cond, refl, ap, sym, ◌∙◌, subst, arith, ◌&&◌, ◌||◌, nat_lt}
+use Rattle.std.specs.List.{list_any}
+use Rattle.std.proofs.lemmas.Bool.{cases_Bool, and_parts}
+use Rattle.std.proofs.lemmas.Bool.Decides.{nat_tests}
+use Rattle.std.proofs.lemmas.List.Folds.{list_any-append}
+use Rattle.mail_fields.specs.Keyword.{same_keyword}
+use Rattle.mail_types.specs.Mailboxes.{are_distinct}
+use Rattle.status_heads.specs.Names.{is_keyword, is_new, words_of, with_names}
+
+shuffled : (a b c d : Bool) → (not (a || (b || false)) && (c && not d)) ≡ ((not a && c) && not (b || d))
+shuffled true b c d = refl
+shuffled false true true d = refl
+shuffled false true false d = refl
+shuffled false false true d = refl
+shuffled false false false d = refl
+
+-- one name more
+distinct-more : (names : List (List ℕ)) (name : List ℕ) → are_distinct (names ++ name ∷ []) ≡ (are_distinct names && not (list_any (λ each. same_keyword each name) names))
+distinct-more [] name = refl
+distinct-more (first ∷ names) name =
+    ap (λ taken. not taken && are_distinct (names ++ name ∷ [])) (list_any-append (same_keyword first) names (name ∷ []))
+    ∙ ap (λ later. not (list_any (same_keyword first) names || (same_keyword first name || false)) && later) (distinct-more names name)
+    ∙ shuffled (list_any (same_keyword first) names) (same_keyword first name) (are_distinct names) (list_any (λ each. same_keyword each name) names)
+
+-- names that a mailbox may have
+abbrev May : List (List ℕ) → Type 0
+May names = (length names ≤ 30) × (are_distinct names ≡ true)
+
+may-more : (names : List (List ℕ)) (name : List ℕ) → May names → is_new names name ≡ true → May (names ++ name ∷ [])
+may-more names name may new =
+    let parts = and_parts (nat_lt (length names) 30) _ new in
+    let other = (and_parts (is_keyword name) _ parts.1).1 in (
+      grind (arith, nat_tests, length-append names (name ∷ []), parts.0),
+      distinct-more names name ∙ ap (λ test. test && not (list_any (λ each. same_keyword each name) names)) may.1 ∙ other,
+    )
+
+with-may : (names words : List (List ℕ)) → May names → May (with_names names words)
+with-may names [] may = may
+with-may names (word ∷ words) may = ⊎_elim
+    (λ new. subst (λ test. May (with_names (cond test (names ++ word ∷ []) names) words)) (sym new) (with-may (names ++ word ∷ []) words (may-more names word may new)))
+    (λ old. subst (λ test. May (with_names (cond test (names ++ word ∷ []) names) words)) (sym old) (with-may names words may))
+    (cases_Bool (is_new names word))
+
+-- the names that stand when no word is left
+pub first-may : (value rest : List ℕ) (names : List (List ℕ)) → with_names names (words_of rest) ≡ with_names [] (words_of value) → words_of rest ≡ [] → May names
+first-may value rest names same none =
+    subst May (sym (ap (with_names names) (sym none) ∙ same)) (with-may [] (words_of value) (omega arith, refl))

@@ -1,0 +1,5 @@
+pub mod Bases
+pub mod Fields
+pub mod Heads
+pub mod Names
+pub mod Numbers
