@@ -1,6 +1,6 @@
 //! The status fields of unix and mmdf messages, and the base of a mailbox.
 use mail_fields::{Keyword, put_hex};
-use status_heads::{read_base, read_heads};
+use status_heads::{put_heads, put_pseudo, read_base, read_heads};
 use std::alloc::{AllocError, Global};
 use std::test::Fail;
 
@@ -157,5 +157,49 @@ fn a_base_has_at_most_30_names(rt: HostRuntime) -> Result<(), Fail> {
     assert_eq!(rt; name_count(rt.alloc(), 30, b" K00000000")?, (31, 30));
     assert_eq!(rt; name_count(rt.alloc(), 29, b" K00000000 last")?, (31, 30));
     assert_eq!(rt; name_count(rt.alloc(), 100000, b"")?, (100000, 30));
+    Ok(())
+}
+
+// A header, and the status fields that are written of it.
+const WRITTEN: [(&[u8], &[u8]); 6] = [
+    (b"", b""),
+    (b"Status: RO\nX-UID: 1\n\n", b"Status: RO\nX-UID: 1\n"),
+    (
+        b"Status: O\nX-Status: F\nX-Keywords: Work\nX-UID: 2\n\n",
+        b"Status: O\nX-Status: F\nX-Keywords: Work\nX-UID: 2\n",
+    ),
+    (
+        b"X-UID: 0000000012\nX-Status: TAFD\nStatus: OR\nX-Keywords:  a   b A\n\n",
+        b"Status: RO\nX-Status: DFAT\nX-Keywords: a b A\nX-UID: 12\n",
+    ),
+    (b"Status: R\n\n", b"Status: R\n"),
+    (b"X-UID: 4294967294\n\n", b"X-UID: 4294967294\n"),
+];
+
+#[test]
+fn heads_are_written_as_fields(rt: HostRuntime) -> Result<(), Fail> {
+    for (text, expected) in WRITTEN {
+        let heads = read_heads(rt.alloc(), text)?;
+        assert!(rt; put_heads(rt.alloc(), &heads)?.as_slice() == expected);
+    }
+    Ok(())
+}
+
+const PSEUDO: &[u8] =
+    b"From MAILER-DAEMON Thu Jan  1 00:00:00 1970\nFrom: Mail System Internal Data <MAILER-DAEMON@localhost>\nSubject: DON'T DELETE THIS MESSAGE -- FOLDER INTERNAL DATA\nX-IMAP: 0000000900 0000000002 Work\nStatus: RO\n\nThis text is part of the internal format of your mail folder.\n";
+
+// A base without names, with the greatest numbers.
+const GREATEST: &[u8] =
+    b"From MAILER-DAEMON Thu Jan  1 00:00:00 1970\nFrom: Mail System Internal Data <MAILER-DAEMON@localhost>\nSubject: DON'T DELETE THIS MESSAGE -- FOLDER INTERNAL DATA\nX-IMAP: 4294967295 4294967294\nStatus: RO\n\nThis text is part of the internal format of your mail folder.\n";
+
+#[test]
+fn a_base_is_written_as_it_was_read(rt: HostRuntime) -> Result<(), Fail> {
+    for expected in [PSEUDO, GREATEST] {
+        let base = read_base(rt.alloc(), expected, b"X-IMAP")?;
+        assert!(rt; base.is_some());
+        if let Some(base) = base {
+            assert!(rt; put_pseudo(rt.alloc(), &base)?.as_slice() == expected);
+        }
+    }
     Ok(())
 }

@@ -1,14 +1,18 @@
-//! The status fields of unix and mmdf messages, and the base of a mailbox.
+//! The status fields of unix and mmdf messages, the base of a mailbox, and the message that holds it.
 //!
 //! Stands on `head_fields` for fields and their values, on `mail_fields` for numbers and keywords, and
 //! on `mail_types` for flags.
 #![tactic(auto)]
 
 mod base;
+mod head_text;
 mod heads;
 mod names;
 mod number;
+mod pseudo;
 mod value;
 
 pub use base::{Base, read_base};
+pub use head_text::put_heads;
 pub use heads::{Heads, read_heads};
+pub use pseudo::put_pseudo;

@@ -1,0 +1,78 @@
+// The message that holds the base of a mailbox.
+ghost use Rattle.std.specs.Prelude.{◌≡◌, ◌≢◌, ◌≤◌, ◌%◌, ◌++◌, true, length, IfOk, OnOk};
+ghost use Rattle.std.specs.Char.{digit_char};
+ghost use Rattle.mail_types.specs.Mailboxes.{are_distinct};
+ghost use Rattle.status_heads.specs.Numbers.{greatest_uid};
+ghost use Rattle.status_heads.specs.PseudoTexts.{base_text, pseudo_text, ten_digits};
+
+use crate::base::Base;
+use crate::head_text::put_spaced;
+use std::alloc::{AllocError, Global};
+
+const HEADER: &[u8] =
+    b"From MAILER-DAEMON Thu Jan  1 00:00:00 1970\nFrom: Mail System Internal Data <MAILER-DAEMON@localhost>\nSubject: DON'T DELETE THIS MESSAGE -- FOLDER INTERNAL DATA\nX-IMAP: ";
+
+const REST: &[u8] =
+    b"\nStatus: RO\n\nThis text is part of the internal format of your mail folder.\n";
+
+/// The message that holds the base of a mailbox, which is the first of its file and no message of it.
+///
+/// It goes from the delimiter line to the line end of its one line of text, and LF ends each line.
+#[tactic(auto, unfolding(crate::specs::PseudoTexts::pseudo_text))]
+pub fn put_pseudo(alloc: Global, base: &Base) -> Result<Vec<u8>, AllocError>
+    requires validity { base.now.validity ≢ 0 }
+    requires last { base.now.last ≤ greatest_uid }
+    requires few { length base.now.words ≤ 30 }
+    requires distinct { are_distinct base.now.words ≡ true }
+    ensures text { IfOk result (λ v. v.items ≡ pseudo_text base.now) }
+{
+    let mut text = Vec::from_slice(alloc, HEADER)?;
+    put_base(&mut text, base)?;
+    text.extend_from_slice(REST)?;
+    Ok(text)
+}
+
+// Appends the value of the field that holds a base.
+#[tactic(auto, unfolding(crate::specs::PseudoTexts::base_text))]
+fn put_base(out: &mut Vec<u8>, base: &Base) -> Result<(), AllocError>
+    ensures { OnOk result (out.new.items ≡ out.old.items ++ base_text base.now) }
+{
+    out.extend_from_slice(&ten_digits(base.validity))?;
+    out.extend_from_slice(b" ")?;
+    out.extend_from_slice(&ten_digits(base.last))?;
+    put_spaced(out, base.words.as_slice())
+}
+
+fn digit(number: u32) -> u8
+    ensures { result ≡ digit_char (number % 10) }
+{
+    b'0' + (number % 10) as u8
+}
+
+// The ten decimal digits of a number, with zeros in front.
+#[tactic(auto, unfolding(crate::specs::PseudoTexts::ten_digits))]
+fn ten_digits(number: u32) -> [u8; 10]
+    ensures { result ≡ ten_digits number }
+{
+    let tens = number / 10;
+    let hundreds = tens / 10;
+    let thousands = hundreds / 10;
+    let fourth = thousands / 10;
+    let fifth = fourth / 10;
+    let sixth = fifth / 10;
+    let seventh = sixth / 10;
+    let eighth = seventh / 10;
+    let ninth = eighth / 10;
+    [
+        digit(ninth),
+        digit(eighth),
+        digit(seventh),
+        digit(sixth),
+        digit(fifth),
+        digit(fourth),
+        digit(thousands),
+        digit(hundreds),
+        digit(tens),
+        digit(number),
+    ]
+}
