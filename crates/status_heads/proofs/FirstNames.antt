@@ -16,7 +16,7 @@ shuffled false false true d = refl
 shuffled false false false d = refl
 
 -- one name more
-distinct-more : (names : List (List ℕ)) (name : List ℕ) → are_distinct (names ++ name ∷ []) ≡ (are_distinct names && not (list_any (λ each. same_keyword each name) names))
+pub distinct-more : (names : List (List ℕ)) (name : List ℕ) → are_distinct (names ++ name ∷ []) ≡ (are_distinct names && not (list_any (λ each. same_keyword each name) names))
 distinct-more [] name = refl
 distinct-more (first ∷ names) name =
     ap (λ taken. not taken && are_distinct (names ++ name ∷ [])) (list_any-append (same_keyword first) names (name ∷ []))

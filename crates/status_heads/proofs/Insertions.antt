@@ -107,18 +107,18 @@ each-made : (lines : List (List ℕ)) → Each IsMade lines → Each IsFilled li
 each-made [] each = tt
 each-made (line ∷ lines) each = (each.0.is, each-made lines each.1)
 
-lines-before : (front more : List (List ℕ)) → Each IsFilled front → AreLines more → AreLines (front ++ more)
+pub lines-before : (front more : List (List ℕ)) → Each IsFilled front → AreLines more → AreLines (front ++ more)
 lines-before [] more each are = are
 lines-before (line ∷ front) more each are = inl (each.0.closed, lines-before front more each.1 are)
 
-header-before : (front more : List (List ℕ)) → Each IsFilled front → before_first is_empty_line (front ++ more) ≡ front ++ before_first is_empty_line more
+pub header-before : (front more : List (List ℕ)) → Each IsFilled front → before_first is_empty_line (front ++ more) ≡ front ++ before_first is_empty_line more
 header-before [] more each = refl
 header-before (line ∷ front) more each =
     before-step is_empty_line line (front ++ more)
     ∙ cond-false (is_empty_line line) [] (line ∷ before_first is_empty_line (front ++ more)) each.0.filled
     ∙ ap (λ l. line ∷ l) (header-before front more each.1)
 
-header-end : (line : List ℕ) (rest : List (List ℕ)) → is_empty_line line ≡ true → before_first is_empty_line (line ∷ rest) ≡ []
+pub header-end : (line : List ℕ) (rest : List (List ℕ)) → is_empty_line line ≡ true → before_first is_empty_line (line ∷ rest) ≡ []
 header-end line rest empty = before-step is_empty_line line rest ∙ cond-true (is_empty_line line) [] (line ∷ before_first is_empty_line rest) empty
 
 free-stays : (front more : List (List ℕ)) → Each IsFree front → unreserved_lines false (front ++ more) ≡ front ++ unreserved_lines false more

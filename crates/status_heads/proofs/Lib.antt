@@ -3,6 +3,7 @@ pub mod FirstNames
 pub mod Insertions
 pub mod MadeLines
 pub mod NamedFields
+pub mod PseudoBack
 pub mod PutBack
 pub mod WordSplits
 pub mod WrittenValues

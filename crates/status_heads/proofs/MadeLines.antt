@@ -76,7 +76,7 @@ module _ (name value : List ℕ) (is : IsReservedName name) (clean : is_clean va
   tail-closed : is_closed tail ≡ true
   tail-closed = closed-of (32 ∷ value) clean
 
-  made-line : IsMade (field_line name value)
+  pub made-line : IsMade (field_line name value)
   made-line = record {
     is = record { closed = ap is_closed line-is ∙ is.closed tail tail-closed; filled = ap is_empty_line line-is ∙ is.filled tail };
     reserved = ap is_reserved line-is ∙ is.reserved tail;
@@ -101,7 +101,7 @@ module _ (name value : List ℕ) (is : IsReservedName name) (clean : is_clean va
       ∙ ap line_text (append-nil (after_first is_colon (name ++ 58 ∷ tail)) ∙ is.behind tail)
       ∙ text-of (32 ∷ value) clean
 
-  line-reads : (rest : List (List ℕ)) → Each IsMade rest → readings_of (field_line name value ∷ rest) ≡ (name, 32 ∷ value) ∷ readings_of rest
+  pub line-reads : (rest : List (List ℕ)) → Each IsMade rest → readings_of (field_line name value ∷ rest) ≡ (name, 32 ∷ value) ∷ readings_of rest
   line-reads rest each =
       let line = name ++ 58 ∷ tail in
       let later = readings_of rest in

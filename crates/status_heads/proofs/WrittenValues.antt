@@ -142,15 +142,16 @@ all-kept test (name ∷ names) keeps all =
 some-byte : (name : List ℕ) → is_keyword name ≡ true → nat_lt 0 (length name) ≡ true
 some-byte name is = grind (arith, nat_tests, (keyword-solid name is).1)
 
-pub names-again : (names : List (List ℕ)) → list_all is_keyword names ≡ true → names_of (names_text names) ≡ names
+pub words-again : (names : List (List ℕ)) → list_all is_keyword names ≡ true → words_of (names_text names) ≡ names
 unfolding words_of
-names-again [] all = refl
-names-again (first ∷ names) all =
+words-again [] all = refl
+words-again (first ∷ names) all =
     let parts = and_parts (is_keyword first) (list_all is_keyword names) all in
-    let every = first ∷ names in
-    ap (λ words. filter is_keyword (filter (λ word. nat_lt 0 (length word)) words)) (names-split first names parts.0 parts.1)
-    ∙ ap (filter is_keyword) (all-kept (λ word. nat_lt 0 (length word)) every some-byte all)
-    ∙ all-kept is_keyword every (λ name is. is) all
+    ap (filter (λ word. nat_lt 0 (length word))) (names-split first names parts.0 parts.1)
+    ∙ all-kept (λ word. nat_lt 0 (length word)) (first ∷ names) some-byte all
+
+pub names-again : (names : List (List ℕ)) → list_all is_keyword names ≡ true → names_of (names_text names) ≡ names
+names-again names all = ap (filter is_keyword) (words-again names all) ∙ all-kept is_keyword names (λ name is. is) all
 
 clean-both : (one other : List ℕ) → is_clean one ≡ true → is_clean other ≡ true → is_clean (one ++ other) ≡ true
 clean-both one other a b = list_all-append (λ byte. not (byte == 10) && not (byte == 13)) one other ∙ both_true a b

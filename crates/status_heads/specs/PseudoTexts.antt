@@ -12,9 +12,13 @@ ten_digits number = digits_in 10 10 number
 unfoldable pub base_text : Base → List ℕ
 base_text base = ten_digits base.validity ++ codes " " ++ ten_digits base.last ++ spaced_names base.words
 
--- the delimiter line, the header and the one line of the body
-unfoldable pub pseudo_text : Base → List ℕ
-pseudo_text base =
-    codes "From MAILER-DAEMON Thu Jan  1 00:00:00 1970\nFrom: Mail System Internal Data <MAILER-DAEMON@localhost>\nSubject: DON'T DELETE THIS MESSAGE -- FOLDER INTERNAL DATA\nX-IMAP: "
+-- the header and the one line of the body
+unfoldable pub pseudo_message : Base → List ℕ
+pseudo_message base =
+    codes "From: Mail System Internal Data <MAILER-DAEMON@localhost>\nSubject: DON'T DELETE THIS MESSAGE -- FOLDER INTERNAL DATA\nX-IMAP: "
     ++ base_text base
     ++ codes "\nStatus: RO\n\nThis text is part of the internal format of your mail folder.\n"
+
+-- the message behind its delimiter line
+abbrev pub pseudo_text : Base → List ℕ
+pseudo_text base = codes "From MAILER-DAEMON Thu Jan  1 00:00:00 1970\n" ++ pseudo_message base

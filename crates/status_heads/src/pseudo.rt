@@ -1,16 +1,21 @@
 // The message that holds the base of a mailbox.
-ghost use Rattle.std.specs.Prelude.{◌≡◌, ◌≢◌, ◌≤◌, ◌%◌, ◌++◌, true, length, IfOk, OnOk};
+ghost use Rattle.std.specs.Prelude.{◌≡◌, ◌≢◌, ◌<◌, ◌≤◌, ◌%◌, ◌^◌, ◌++◌, Some, true, codes, length, IfOk, OnOk};
 ghost use Rattle.std.specs.Char.{digit_char};
+ghost use Rattle.std.specs.List.{list_all};
 ghost use Rattle.mail_types.specs.Mailboxes.{are_distinct};
+ghost use Rattle.status_heads.specs.Bases.{base_of};
+ghost use Rattle.status_heads.specs.Names.{is_keyword};
 ghost use Rattle.status_heads.specs.Numbers.{greatest_uid};
-ghost use Rattle.status_heads.specs.PseudoTexts.{base_text, pseudo_text, ten_digits};
+ghost use Rattle.status_heads.specs.PseudoTexts.{base_text, pseudo_message, pseudo_text, ten_digits};
 
 use crate::base::Base;
 use crate::head_text::put_spaced;
 use std::alloc::{AllocError, Global};
 
+const DELIMITER: &[u8] = b"From MAILER-DAEMON Thu Jan  1 00:00:00 1970\n";
+
 const HEADER: &[u8] =
-    b"From MAILER-DAEMON Thu Jan  1 00:00:00 1970\nFrom: Mail System Internal Data <MAILER-DAEMON@localhost>\nSubject: DON'T DELETE THIS MESSAGE -- FOLDER INTERNAL DATA\nX-IMAP: ";
+    b"From: Mail System Internal Data <MAILER-DAEMON@localhost>\nSubject: DON'T DELETE THIS MESSAGE -- FOLDER INTERNAL DATA\nX-IMAP: ";
 
 const REST: &[u8] =
     b"\nStatus: RO\n\nThis text is part of the internal format of your mail folder.\n";
@@ -18,15 +23,18 @@ const REST: &[u8] =
 /// The message that holds the base of a mailbox, which is the first of its file and no message of it.
 ///
 /// It goes from the delimiter line to the line end of its one line of text, and LF ends each line.
-#[tactic(auto, unfolding(crate::specs::PseudoTexts::pseudo_text))]
+#[tactic(auto, unfolding(crate::specs::PseudoTexts::pseudo_message))]
 pub fn put_pseudo(alloc: Global, base: &Base) -> Result<Vec<u8>, AllocError>
     requires validity { base.now.validity ≢ 0 }
     requires last { base.now.last ≤ greatest_uid }
     requires few { length base.now.words ≤ 30 }
     requires distinct { are_distinct base.now.words ≡ true }
     ensures text { IfOk result (λ v. v.items ≡ pseudo_text base.now) }
+    // behind its delimiter line it is read again
+    ensures read { IfOk result (λ _. base_of (pseudo_message base.now) (codes "X-IMAP") ≡ Some base.now) }
 {
-    let mut text = Vec::from_slice(alloc, HEADER)?;
+    let mut text = Vec::from_slice(alloc, DELIMITER)?;
+    text.extend_from_slice(HEADER)?;
     put_base(&mut text, base)?;
     text.extend_from_slice(REST)?;
     Ok(text)
@@ -35,7 +43,9 @@ pub fn put_pseudo(alloc: Global, base: &Base) -> Result<Vec<u8>, AllocError>
 // Appends the value of the field that holds a base.
 #[tactic(auto, unfolding(crate::specs::PseudoTexts::base_text))]
 fn put_base(out: &mut Vec<u8>, base: &Base) -> Result<(), AllocError>
-    ensures { OnOk result (out.new.items ≡ out.old.items ++ base_text base.now) }
+    ensures text { OnOk result (out.new.items ≡ out.old.items ++ base_text base.now) }
+    ensures keywords { OnOk result (list_all is_keyword base.now.words ≡ true) }
+    ensures fits { OnOk result (base.now.validity < 2 ^ 32) }
 {
     out.extend_from_slice(&ten_digits(base.validity))?;
     out.extend_from_slice(b" ")?;
@@ -52,7 +62,8 @@ fn digit(number: u32) -> u8
 // The ten decimal digits of a number, with zeros in front.
 #[tactic(auto, unfolding(crate::specs::PseudoTexts::ten_digits))]
 fn ten_digits(number: u32) -> [u8; 10]
-    ensures { result ≡ ten_digits number }
+    ensures text { result ≡ ten_digits number }
+    ensures fits { number < 2 ^ 32 }
 {
     let tens = number / 10;
     let hundreds = tens / 10;
