@@ -1,9 +1,9 @@
 // One of the seven mailbox formats.
-ghost use Rattle.std.specs.Prelude.{◌≡◌, ◌≢◌, ◌≤◌, ◌+◌, ◌⊎◌, ℕ, List, IfOk, IfErr, OnOk, IsErr};
+ghost use Rattle.std.specs.Prelude.{◌≡◌, ◌≢◌, ◌≤◌, ◌+◌, ◌⊎◌, ℕ, List, false, IfOk, IfErr, OnOk, IsErr};
 ghost use Rattle.file_model.specs.Disk.{seen};
 ghost use Rattle.file_model.specs.Images.{Image, node_at, nothing};
 ghost use Rattle.file_model.specs.Histories.{Now, Ended};
-ghost use Rattle.file_model.specs.Paths.{IsInDirectory};
+ghost use Rattle.file_model.specs.Paths.{is_top};
 ghost use Rattle.mail_types.specs.declared.driver.Driver.{Driver};
 ghost use Rattle.mail_types.specs.declared.driver.Keeps.{Keeps as KeepsTable};
 ghost use Rattle.mail_types.specs.Drivers.{keeps_of};
@@ -34,6 +34,7 @@ pub trait Format<F: Files>: Store<F> {
     where
         Self: Sized,
         requires fresh { 1 ≤ fresh }
+        requires below { is_top path.now ≡ false }
         requires kind { Now (F.history files.old) (λ w. (node_at (seen w.disk) path.now ≡ nothing) ⊎ IsOfKind DRIVER path.now (seen w.disk)) }
 
         ensures refused { IfErr result (λ fault. RefusesOpen (Self.grammar DRIVER path.now) DRIVER path.now fault (F.history files.old)) }
@@ -49,7 +50,7 @@ pub trait Format<F: Files>: Store<F> {
     where
         Self: Sized,
         requires fresh { 1 ≤ fresh }
-        requires inside { IsInDirectory path.now }
+        requires below { is_top path.now ≡ false }
         requires free { Now (F.history files.old) (λ w. IsFreeFor DRIVER path.now (seen w.disk)) }
 
         ensures answer { IsErr result → Breaks result }
@@ -62,7 +63,7 @@ pub trait Format<F: Files>: Store<F> {
     /// Removes the mailbox's own files, well-formed or not, and its directory where nothing else stands in it.
     /// Its refusals are `Failed` and `Memory`.
     fn remove(alloc: Global, files: &mut F, path: &str) -> Result<(), StoreFault>
-        requires inside { IsInDirectory path.now }
+        requires below { is_top path.now ≡ false }
         requires kind { Now (F.history files.old) (λ w. (node_at (seen w.disk) path.now ≢ nothing) × IsOfKind DRIVER path.now (seen w.disk)) }
 
         ensures answer { IsErr result → Breaks result }
