@@ -31,6 +31,8 @@ pub fn prepare<F: Files>(
     ensures sees { OnOk result (Ended (Sees (λ q. q ≢ temporary_of path.now)) (F.history files.old) (F.history files.new)) }
     ensures memory { IsErrOf result Fault.Memory → F.history files.new ≡ F.history files.old }
     ensures obstructed { Now (F.history files.old) (λ w. is_directory (seen w.disk) (temporary_of path.now) ≡ true → IsErr result × (F.history files.new ≡ F.history files.old)) }
+    // Nothing is heard or said.
+    ensures files { Ran (λ start instant. Unit {0}) (F.history files.old) (F.history files.new) }
     ensures cause { FaultCause (F.faults files.old) (F.faults files.new) result }
 {
     let pending = match places(alloc, path) {
@@ -56,6 +58,7 @@ fn clear<F: Files>(files: &mut F, temporary: &str) -> Result<(), Failed>
     ensures instants { Now (F.history files.old) (λ w. IsHome temporary.now w.disk) → Ran (Keeps (λ q. q ≢ temporary.now)) (F.history files.old) (F.history files.new) }
     ensures sees { OnOk result (Ended (Sees (λ q. q ≢ temporary.now)) (F.history files.old) (F.history files.new)) }
     ensures obstructed { Now (F.history files.old) (λ w. is_directory (seen w.disk) temporary.now ≡ true → IsErr result × (F.history files.new ≡ F.history files.old)) }
+    ensures files { Ran (λ start instant. Unit {0}) (F.history files.old) (F.history files.new) }
     ensures cause { FileCause (F.faults files.old) (F.faults files.new) result }
 {
     match files.stat(temporary)? {
@@ -70,6 +73,7 @@ fn fill<F: Files>(files: &mut F, temporary: &str, bytes: &[u8]) -> Result<(), Fa
     ensures written { OnOk result (Now (F.history files.new) (λ w. IsWritten temporary.now bytes.now w.disk)) }
     ensures instants { Now (F.history files.old) (λ w. IsHome temporary.now w.disk) → Ran (Keeps (λ q. q ≢ temporary.now)) (F.history files.old) (F.history files.new) }
     ensures sees { OnOk result (Ended (Sees (λ q. q ≢ temporary.now)) (F.history files.old) (F.history files.new)) }
+    ensures files { Ran (λ start instant. Unit {0}) (F.history files.old) (F.history files.new) }
     ensures cause { FileCause (F.faults files.old) (F.faults files.new) result }
 {
     files.write_at(temporary, 0, bytes)?;

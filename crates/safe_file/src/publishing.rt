@@ -26,6 +26,8 @@ pub fn publish<F: Files>(files: &mut F, pending: &Pending) -> Result<(), Failed>
     ensures gone { OnOk result (Now (F.history files.new) (λ w. IsGone (temporary_of (string_bytes pending.now.path)) w.disk)) }
     ensures durable { OnOk result (Now (F.history files.new) (λ w. NonePending w.disk)) }
     ensures sees { OnOk result (Ended (Sees (λ q. (q ≢ temporary_of (string_bytes pending.now.path)) × (q ≢ string_bytes pending.now.path))) (F.history files.old) (F.history files.new)) }
+    // Nothing is heard or said.
+    ensures files { Ran (λ start instant. Unit {0}) (F.history files.old) (F.history files.new) }
     ensures cause { FileCause (F.faults files.old) (F.faults files.new) result }
 {
     files.rename(pending.temporary.as_str(), pending.path.as_str())?;

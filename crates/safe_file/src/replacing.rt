@@ -30,6 +30,8 @@ pub fn replace<F: Files>(
     ensures published { OnOk result (Now (F.history files.new) (λ w. HasOnly path.now bytes.now w.disk)) }
     ensures obstructed { Now (F.history files.old) (λ w. is_directory (seen w.disk) path.now ≡ true → IsErr result) }
     ensures memory { IsErrOf result Fault.Memory → F.history files.new ≡ F.history files.old }
+    // Nothing is heard or said.
+    ensures files { Ran (λ start instant. Unit {0}) (F.history files.old) (F.history files.new) }
     ensures cause { FaultCause (F.faults files.old) (F.faults files.new) result }
 {
     let pending = prepare(alloc, files, path, bytes)?;

@@ -4,6 +4,7 @@ use Rattle.file_model.specs.Histories.{Now, Ran, Ended}
 use Rattle.file_model.proofs.Runs.{now_both}
 use Rattle.file_model.proofs.Calls.{ran_make, ran_cut, sees_ok_make}
 use Rattle.file_model.proofs.InPlace.{Shows, stat_shows, stat_apart, owns_any, ok_cut_shows, ok_make_shows, ok_cut_home, ok_make_home, sees_cut}
+use Rattle.safe_file.proofs.OnFiles.{files_cut, files_make}
 use Rattle.safe_file.proofs.preparing.clear.Goals as goal
 
 pub returns-in-File-clause-empty : goal.returns-in-File-clause-empty
@@ -49,3 +50,9 @@ pub returns-in_default-clause-sees : goal.returns-in_default-clause-sees
 returns-in_default-clause-sees g c =
     subst (λ h. OnOk c.make.result (Ended (Sees (λ q. q ≢ c.args.temporary.now)) h (g.F.Files.history c.make.new.self))) c.stat.ensures.same
     (sees_ok_make _ _ _ c.args.temporary.now (g.met.F.Files.sound c.stat.new.self) c.make.ensures.goes_on)
+
+pub returns-in-File-clause-files : goal.returns-in-File-clause-files
+returns-in-File-clause-files g c = subst (λ h. Ran (λ start instant. Unit {0}) h (g.F.Files.history c.cut.new.self)) c.stat.ensures.same (files_cut _ _ _ c.args.temporary.now 0 c.cut.ensures.goes_on)
+
+pub returns-in_default-clause-files : goal.returns-in_default-clause-files
+returns-in_default-clause-files g c = subst (λ h. Ran (λ start instant. Unit {0}) h (g.F.Files.history c.make.new.self)) c.stat.ensures.same (files_make _ _ _ _ c.make.ensures.goes_on)

@@ -7,6 +7,7 @@ use Rattle.file_model.proofs.Runs.{now_both, now_weaker, ended_then}
 use Rattle.file_model.proofs.Calls.{ok_write, ran_write, ran_sync, ran_keeps, sees_trans}
 use Rattle.file_model.proofs.InPlace.{owns, shows_file, ok_write_shows, ok_sync_written, sees_write, sees_sync}
 use Rattle.safe_file.proofs.Beside.{written_empty}
+use Rattle.safe_file.proofs.OnFiles.{files_write, files_sync, then_files}
 use Rattle.safe_file.proofs.preparing.fill.Goals as goal
 
 pub returns-in_err-write_at-clause-instants : goal.returns-in_err-write_at-clause-instants
@@ -36,3 +37,9 @@ pub sync-requires : goal.sync-requires
 sync-requires g c =
     let shows = ok_write_shows (Ok c.in_ok-write_at.field-0) _ _ c.args.temporary.now [] 0 c.args.bytes.now c.requires.empty c.in_ok-write_at.ensures.goes_on in
     now_weaker _ _ (λ w here. shows_file c.args.temporary.now (written 0 c.args.bytes.now []) w.disk here) _ shows
+
+pub returns-in_err-write_at-clause-files : goal.returns-in_err-write_at-clause-files
+returns-in_err-write_at-clause-files g c = files_write _ _ _ c.args.temporary.now 0 c.args.bytes.now c.write_at.ensures.goes_on
+
+pub returns-clause-files : goal.returns-clause-files
+returns-clause-files g c = then_files _ _ _ (files_write _ _ _ c.args.temporary.now 0 c.args.bytes.now c.write_at.ensures.goes_on) (files_sync _ _ _ _ c.sync.ensures.goes_on)

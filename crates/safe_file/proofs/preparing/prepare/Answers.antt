@@ -9,6 +9,7 @@ use Rattle.file_model.proofs.Inside.{in_directory}
 use Rattle.file_model.proofs.Calls.{ran_keeps}
 use Rattle.file_model.proofs.Reserved.{reserved_temporary}
 use Rattle.safe_file.proofs.Beside.{parent_temporary, temporary_below, ok_here}
+use Rattle.safe_file.proofs.OnFiles.{then_files}
 use Rattle.safe_file.proofs.preparing.prepare.Goals as goal
 
 pub clear-requires-clause-room : goal.clear-requires-clause-room
@@ -53,3 +54,9 @@ pub clear-requires-clause-below : goal.clear-requires-clause-below
 clear-requires-clause-below g c =
     let is = c.as_str.ensures.value ∙ c.in-Ok.pending.beside ∙ ap temporary_of c.in-Ok.ensures in
     ap is_top is ∙ temporary_below c.args.path.now (in_directory c.args.path.now c.requires.inside) c.requires.inside
+
+pub returns-then-is_err-2-clause-files : goal.returns-then-is_err-2-clause-files
+returns-then-is_err-2-clause-files g c = then_files _ _ _ c.clear.ensures.files c.fill.ensures.files
+
+pub returns-clause-files : goal.returns-clause-files
+returns-clause-files g c = then_files _ _ _ c.clear.ensures.files c.fill.ensures.files

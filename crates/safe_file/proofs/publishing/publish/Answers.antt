@@ -11,6 +11,7 @@ use Rattle.file_model.proofs.Runs.{ended_then}
 use Rattle.std.proofs.lemmas.Result.{on_ok_weaker}
 use Rattle.file_model.specs.Paths.{temporary_of}
 use Rattle.safe_file.proofs.Beside.{directory_apart, temporary_apart}
+use Rattle.safe_file.proofs.OnFiles.{files_rename, files_sync_dir, then_files}
 use Rattle.safe_file.proofs.publishing.publish.Goals as goal
 
 pub returns-in_err-rename-clause-instants : goal.returns-in_err-rename-clause-instants
@@ -59,3 +60,9 @@ returns-clause-sees g c =
     let first = sees_ok_move (Ok c.in_ok-rename.field-0) _ _ (temporary_of path) path c.requires.written moved in
     on_ok_weaker c.sync_dir.result (λ second. ended_then _ (λ x y z p q. sees_trans _ x y z p q) _ _ _ first second)
     (sees_ok_sync_dir _ _ _ _ _ (g.met.F.Files.sound c.rename.new.self) c.sync_dir.ensures.goes_on)
+
+pub returns-in_err-rename-clause-files : goal.returns-in_err-rename-clause-files
+returns-in_err-rename-clause-files g c = files_rename _ _ _ _ _ c.rename.ensures.goes_on
+
+pub returns-clause-files : goal.returns-clause-files
+returns-clause-files g c = then_files _ _ _ (files_rename _ _ _ _ _ c.rename.ensures.goes_on) (files_sync_dir _ _ _ _ c.sync_dir.ensures.goes_on)

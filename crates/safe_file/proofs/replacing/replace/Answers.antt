@@ -11,6 +11,7 @@ use Rattle.file_model.proofs.Inside.{in_directory}
 use Rattle.file_model.proofs.InPlace.{home_now}
 use Rattle.file_model.proofs.Seen.{directory_on, target_on}
 use Rattle.safe_file.proofs.Whole.{apart, prepared_instants, whole_instants, whole_sees, whole_done, still_obstructed}
+use Rattle.safe_file.proofs.OnFiles.{then_files}
 use Rattle.safe_file.proofs.replacing.replace.Goals as goal
 
 pub returns-in_err-pending-clause-instants : goal.returns-in_err-pending-clause-instants
@@ -69,3 +70,9 @@ returns-in-Ok-clause-obstructed g c =
     let is : string_bytes c.in_ok-pending.pending.path ≡ c.args.path.now = c.in_ok-pending.ensures.path in
     still_obstructed c.args.path.now (in_directory c.args.path.now c.requires.inside) _ _ (λ failed. subst IsErr c.in-Ok.is failed.0) _ _ c.in_ok-pending.ensures.sees
     (subst (λ q. Now (g.F.Files.history c.prepare.new.files) (λ w. is_directory (seen w.disk) q ≡ true → IsErr c.publish.result × (g.F.Files.history c.publish.new.files ≡ g.F.Files.history c.prepare.new.files))) is c.publish.ensures.obstructed)
+
+pub returns-in-Ok-clause-files : goal.returns-in-Ok-clause-files
+returns-in-Ok-clause-files g c = then_files _ _ _ c.prepare.ensures.files c.publish.ensures.files
+
+pub returns-clause-files : goal.returns-clause-files
+returns-clause-files g c = then_files _ _ _ c.prepare.ensures.files c.publish.ensures.files
