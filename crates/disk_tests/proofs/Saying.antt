@@ -5,7 +5,10 @@ use Rattle.file_model.specs.declared.files.Failed.{Failed}
 use Rattle.file_model.specs.Disk.{Disk}
 use Rattle.file_model.specs.Histories.{World, History, Now, Ran, Ended, Passed, Says, saying}
 use Rattle.file_model.specs.Kept.{IsAlike, IsSound, Replaced}
+use Rattle.file_model.specs.Arrived.{Arrived, HasSaid}
 use Rattle.file_model.proofs.Leaving.{alike_replaced}
+use Rattle.file_model.proofs.Passes.{arrived_say, arrived_then, ran_arrived}
+use Rattle.file_model.proofs.Runs.{ran_ended}
 
 -- what is said was said, or the disk has P
 abbrev pub Told : (Disk → Type 0) → World → World → Type 0
@@ -35,6 +38,20 @@ reply_follows R P reply (Ok u) (start ∷ before) (w ∷ past) new ran has says 
     two_more P (saying w reply (length (w.streams.said ++ reply))) (saying w reply (length w.streams.said)) start before (w ∷ past) new has has (ran_says_nothing R P (start ∷ before) (w ∷ past) ran) says
 reply_follows R P reply (Err e) (start ∷ before) (w ∷ past) new ran has says =
     two_more P (saying w (take says.0 reply) (length (w.streams.said ++ take says.0 reply))) (saying w reply (length w.streams.said)) start before (w ∷ past) new has has (ran_says_nothing R P (start ∷ before) (w ∷ past) ran) says.1
+
+-- what the disk has it has after a reply
+pub has_after_reply : (P : Disk → Type 0) (reply : List ℕ) (u : Unit {0}) (mid new : History) → Now mid (λ w. P w.disk) → Says reply (Ok u) mid new → Now new (λ w. P w.disk)
+has_after_reply P reply u [] new has says = subst (λ h. Now h (λ w. P w.disk)) (sym says) tt
+has_after_reply P reply u (w ∷ past) new has says = subst (λ h. Now h (λ v. P v.disk)) (sym says) has
+
+-- a run on files, and then a reply
+pub said_after_files : (reply : List ℕ) (u : Unit {0}) (old mid new : History) → Ran (λ start instant. Unit {0}) old mid → Says reply (Ok u) mid new
+    → Arrived (λ start end. end.streams.said ≡ start.streams.said ++ reply) old new
+said_after_files reply u old mid new ran says =
+    arrived_then (λ a b. (b.streams ≡ a.streams) × Unit {0}) (HasSaid reply) (λ a c. c.streams.said ≡ a.streams.said ++ reply)
+    (λ a b c quiet said. said.said ∙ ap (λ s. s.said ++ reply) quiet.0) old mid new
+    (ran_arrived (λ start instant. Unit {0}) (λ start end. Unit {0}) old mid ran (ran_ended (λ start instant. Unit {0}) (λ d. tt) old mid ran))
+    (arrived_say reply u mid new says)
 
 -- a replaced file and a reply leave the paths alike that were
 pub alike_after_reply : (at : List ℕ → Type 0) (path bytes reply : List ℕ) (old mid new : History)

@@ -1,5 +1,7 @@
 //! A change is settled before it is acknowledged: the promise of a server, over one file and one reply.
-ghost use Rattle.std.specs.Prelude.{◌≡◌, ◌⊎◌, Bool, List, ℕ, OnOk, true, false};
+ghost use Rattle.std.specs.Prelude.{◌≡◌, ◌⊎◌, ◌++◌, Bool, List, ℕ, OnOk, IsErrOf, true, false};
+ghost use Rattle.file_model.specs.Arrived.{Arrived};
+ghost use Rattle.file_model.specs.Causes.{Rose};
 ghost use Rattle.file_model.specs.Disk.{seen};
 ghost use Rattle.file_model.specs.Histories.{Now, Passed};
 ghost use Rattle.file_model.specs.Images.{is_directory};
@@ -26,6 +28,11 @@ pub fn replace_and_say<H: Host>(
 
     // Where a crash finds any byte of the reply, it leaves the file with the new content.
     ensures acknowledged { Passed (λ start w. (w.streams.said ≡ start.streams.said) ⊎ HasOnly path.now bytes.now w.disk) (H.history host.old) (H.history host.new) }
+    // After Ok the reply was said, and the file has the new content; a failure has its cause.
+    ensures said { OnOk result (Arrived (λ start end. end.streams.said ≡ start.streams.said ++ reply.now) (H.history host.old) (H.history host.new)) }
+    ensures replaced { OnOk result (Now (H.history host.new) (λ w. HasOnly path.now bytes.now w.disk)) }
+    ensures failed { IsErrOf result Fault.Failed → Rose (H.faults host.old).file (H.faults host.new).file ⊎ Rose (H.faults host.old).say (H.faults host.new).say }
+    ensures memory { IsErrOf result Fault.Memory → H.history host.new ≡ H.history host.old }
     // The paths that were alike in all images are so again.
     ensures alike { (at : List ℕ → Bool) → Now (H.history host.old) (λ w. IsAlike (λ q. at q ≡ true) w.disk) → OnOk result (Now (H.history host.new) (λ w. IsAlike (λ q. at q ≡ true) w.disk)) }
 {
