@@ -30,7 +30,7 @@ bytes_written place bytes old new was =
 
 pub bytes_possible : (durable : List ℕ) (edits : List Edit) (bytes : List ℕ) → AreBytes durable → IsPossible durable edits bytes → AreBytes bytes
 bytes_possible durable [] bytes all is = subst AreBytes (sym is) all
-bytes_possible durable (wrote place n ∷ earlier) bytes all is = is.2.any (bytes_possible durable earlier is.0 all is.1)
+bytes_possible durable (wrote place new ∷ earlier) bytes all is = is.2.any (bytes_possible durable earlier is.0 all is.1)
 bytes_possible durable (shortened l ∷ earlier) bytes all is = ⊎_elim
     (λ same. subst AreBytes (sym same) (bytes_possible durable earlier is.0 all is.1))
     (λ shorter. subst AreBytes (sym shorter) (bytes_take l is.0 (bytes_possible durable earlier is.0 all is.1)))

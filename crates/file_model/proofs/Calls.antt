@@ -90,7 +90,7 @@ module _ (path : List ℕ) (disk : Disk) where
   })
 
   pub keeps_write : (b : List ℕ) (place : ℕ) (bytes : List ℕ) → IsOwn path b disk → Keeps (λ q. q ≢ path) disk (after (write_at path place bytes) disk)
-  keeps_write b place bytes own = changed_keeps own.id (written_file place bytes) (wrote place (length bytes)) own.stands own.home (λ f. refl) (λ f. refl)
+  keeps_write b place bytes own = changed_keeps own.id (written_file place bytes) (wrote place bytes) own.stands own.home (λ f. refl) (λ f. refl)
 
   pub keeps_cut : (b : List ℕ) (l : ℕ) → IsOwn path b disk → Keeps (λ q. q ≢ path) disk (after (cut path l) disk)
   keeps_cut b l own = changed_keeps own.id (cut_file l) (shortened l) own.stands own.home (λ f. refl) (λ f. refl)

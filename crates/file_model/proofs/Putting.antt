@@ -190,7 +190,7 @@ module _ (path : List ℕ) (place bound : ℕ) where
   front_write b bytes d fitting own = record {
     rest = keeps_write path d b place bytes own;
     front = λ front most below enough was. subst (λ e. Leaves (BeginsWith path front most) (with_file (written_file place bytes) e d)) (sym own.stands)
-        (front_edit path front most d own.id (written_file place bytes) (wrote place (length bytes)) (λ f. refl) (λ f. refl)
+        (front_edit path front most d own.id (written_file place bytes) (wrote place bytes) (λ f. refl) (λ f. refl)
         (λ old new led fits. fits_torn front place (length bytes) most old new below (omega (arith, fitting, enough)) led fits) was);
   }
 

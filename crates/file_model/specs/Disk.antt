@@ -7,12 +7,12 @@ use Rattle.file_model.specs.Images.{Entry, a_file, a_directory, Names, Image}
 
 -- ---- Contents
 
--- a change of a file's bytes that no sync has durable
+-- a change of a file's bytes that no sync made durable
 pub data Edit : Type 0 where
-  wrote : ℕ → ℕ → Edit
+  wrote : ℕ → List ℕ → Edit
   shortened : ℕ → Edit
 
--- what reads see of a file, what its last sync durable, and the edits since, the newest first
+-- what reads see of a file, what its last sync made durable, and the edits since, the newest first
 pub record FileState : Type 0 where
   pub seen : List ℕ
   pub durable : List ℕ
@@ -31,7 +31,7 @@ pub record Torn (place n : ℕ) (old new : List ℕ) : Type 0 where
 
 -- an edit leads from one possible content to another
 abbrev pub Leads : Edit → List ℕ → List ℕ → Type 0
-Leads (wrote place n) old new = Torn place n old new
+Leads (wrote place bytes) old new = Torn place (length bytes) old new
 Leads (shortened l) old new = (new ≡ old) ⊎ (new ≡ take l old)
 
 -- a crash may leave this content of a file
@@ -134,7 +134,7 @@ abbrev pub edited_file : List ℕ → Edit → FileState → FileState
 edited_file bytes edit f = record { seen = bytes; durable = f.durable; edits = edit ∷ f.edits }
 
 abbrev pub written_file : ℕ → List ℕ → FileState → FileState
-written_file place bytes f = edited_file (written place bytes f.seen) (wrote place (length bytes)) f
+written_file place bytes f = edited_file (written place bytes f.seen) (wrote place bytes) f
 
 abbrev pub cut_file : ℕ → FileState → FileState
 cut_file l f = edited_file (take l f.seen) (shortened l) f

@@ -1,6 +1,12 @@
 pub mod Fitted
+pub mod Found
+pub mod Leaving
+pub mod Left
 pub mod Listed
 pub mod Mirrored
 pub mod Putting
+pub mod Rebuilt
+pub mod Remaining
 pub mod Replayed
 pub mod Resting
+pub mod Tidy

@@ -255,20 +255,26 @@ pub is_same : (contents other : List (Vec ℕ Global)) → other ≡ contents �
 is_same contents other same = subst (IsSame contents) (sym same) (record { count = refl; bytes = λ k low d. refl })
 
 -- the name of a file that moved
+pub moved_shows : (old new : Map) (names : Names) (from to : List ℕ) (id : ℕ)
+    → ((q : List ℕ) → get_by_text new q ≡ update bytes_eq (update bytes_eq (get_by_text old) from None) to (Some (File id)) q)
+    → Shows old names → Shows new (insert (remove names from) to (a_file id))
+moved_shows old new names from to id moves shows q = elim (cases_path q to) [
+  | inl same ↦ ap (λ z. entry_of (get_by_text new z)) same ∙ ap entry_of (moves to ∙ same_update (update bytes_eq (get_by_text old) from None) to (Some (File id)))
+      ∙ sym (get-insert_same (remove names from) to (a_file id)) ∙ ap (get (insert (remove names from) to (a_file id))) (sym same)
+  | inr apart ↦ ap entry_of (moves q ∙ other_update (update bytes_eq (get_by_text old) from None) to (Some (File id)) q apart) ∙ taken q ∙ sym (get-insert_other (remove names from) to (a_file id) q apart)
+]
+  where
+    taken : (q : List ℕ) → entry_of (update bytes_eq (get_by_text old) from None q) ≡ get (remove names from) q
+    taken q = elim (cases_path q from) [
+      | inl same ↦ ap (λ z. entry_of (update bytes_eq (get_by_text old) from None z)) same ∙ ap entry_of (same_update (get_by_text old) from None) ∙ sym (get-remove_same names from) ∙ ap (get (remove names from)) (sym same)
+      | inr apart ↦ ap entry_of (other_update (get_by_text old) from None q apart) ∙ shows q ∙ sym (get-remove_other names from q apart)
+    ]
+
 pub rename_shows : (old new : Map) (disk : Disk) (from to : List ℕ) (id : ℕ) → get_by_text old from ≡ Some (File id)
     → ((q : List ℕ) → get_by_text new q ≡ update bytes_eq (update bytes_eq (get_by_text old) from None) to (Some (File id)) q)
     → Shows old (seen_names disk) → Shows new (seen_names (after (rename from to) disk))
-rename_shows old new disk from to id leads moves shows = subst (λ e. Shows new (done (renamed from to e) (seen_names disk))) (sym (ap entry_of leads) ∙ shows from) (λ q. elim (cases_path q to) [
-  | inl same ↦ ap (λ z. entry_of (get_by_text new z)) same ∙ ap entry_of (moves to ∙ same_update (update bytes_eq (get_by_text old) from None) to (Some (File id)))
-      ∙ sym (get-insert_same (remove (seen_names disk) from) to (a_file id)) ∙ ap (get (insert (remove (seen_names disk) from) to (a_file id))) (sym same)
-  | inr apart ↦ ap entry_of (moves q ∙ other_update (update bytes_eq (get_by_text old) from None) to (Some (File id)) q apart) ∙ taken q ∙ sym (get-insert_other (remove (seen_names disk) from) to (a_file id) q apart)
-])
-  where
-    taken : (q : List ℕ) → entry_of (update bytes_eq (get_by_text old) from None q) ≡ get (remove (seen_names disk) from) q
-    taken q = elim (cases_path q from) [
-      | inl same ↦ ap (λ z. entry_of (update bytes_eq (get_by_text old) from None z)) same ∙ ap entry_of (same_update (get_by_text old) from None) ∙ sym (get-remove_same (seen_names disk) from) ∙ ap (get (remove (seen_names disk) from)) (sym same)
-      | inr apart ↦ ap entry_of (other_update (get_by_text old) from None q apart) ∙ shows q ∙ sym (get-remove_other (seen_names disk) from q apart)
-    ]
+rename_shows old new disk from to id leads moves shows =
+    subst (λ e. Shows new (done (renamed from to e) (seen_names disk))) (sym (ap entry_of leads) ∙ shows from) (moved_shows old new (seen_names disk) from to id moves shows)
 
 pub rename_directory_shows : (old new : Map) (disk : Disk) (from to : List ℕ) → get_by_text old from ≡ Some Dir
     → ((all : Names) → Shows old all → Shows new (done (moved_directory from to) all)) → Shows old (seen_names disk) → Shows new (seen_names (after (rename from to) disk))

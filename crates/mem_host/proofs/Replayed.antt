@@ -8,7 +8,7 @@ use Rattle.file_model.specs.Histories.{World, History, Now, GoesOn, Hears, Says,
 use Rattle.mem_host.specs.State.{State, history_of}
 use Rattle.mem_host.specs.Soundness.{sound_replayed}
 use Rattle.file_model.specs.Kept.{IsSound}
-use Rattle.mem_host.specs.Events.{Event, put_directory, put_file, looked, did, refused, heard, hear_failed, said, say_failed}
+use Rattle.mem_host.specs.Events.{Event, put_directory, put_file, found, looked, did, refused, heard, hear_failed, said, say_failed}
 use Rattle.mem_host.proofs.Fitted.{done_is}
 use Rattle.mem_host.specs.Replay.{next_world, instants, pushed, replay, world_after}
 
@@ -20,6 +20,7 @@ pub record Newest (history : History) (world : World) : Type 0 where
 newest_instant : (event : Event) (world : World) (past : History) → Newest (instants event world past) (next_world event world)
 newest_instant (put_directory path) world past = record { past = _; whole = refl }
 newest_instant (put_file path bytes) world past = record { past = _; whole = refl }
+newest_instant (found bytes) world past = record { past = _; whole = refl }
 newest_instant looked world past = record { past = _; whole = refl }
 newest_instant (did call) world past = record { past = _; whole = refl }
 newest_instant (refused call) world past = record { past = _; whole = refl }

@@ -6,6 +6,8 @@ pub data Event : Type 0 where
   -- put on the disk at rest, before any call
   put_directory : List ℕ → Event
   put_file : List ℕ → List ℕ → Event
+  -- what a crash found said, before any call
+  found : List ℕ → Event
   -- a call that only reads, whatever came of it
   looked : Event
   -- a call that changes the files, which was done or failed

@@ -1,14 +1,16 @@
--- What a mirror stands for: the events of its record.
+-- What a mirror stands for, and what it keeps true.
 use Rattle.std.specs.Prelude.{List}
 use Rattle.mem_host.specs.Events.{Event}
+use Rattle.mem_host.specs.Fitted.{AllFit}
 use Rattle.mem_host.specs.Mirrored.{Mirrors}
 use Rattle.mem_host.specs.Replay.{world_after}
 use Rattle.mem_host.specs.declared.mirror.Mirror.TheInside.{Inside}
 
--- the record
-abbrev pub events_of : Inside → List Event
-events_of a = a.record.events
+-- the events of its log
+abbrev pub logged_events : Inside → List Event
+logged_events a = a.log
 
--- the maps are what reads see after the events of the record
-abbrev pub IsMirror : Inside → Type 0
-IsMirror a = Mirrors a.names a.contents.items (world_after a.record.events).disk
+-- The maps are what reads see after the events of the log, and these fit.
+pub record IsMirror (a : Inside) : Type 0 where
+  pub mirrors : Mirrors a.names a.contents.items (world_after a.log).disk
+  pub fit : AllFit a.log

@@ -7,11 +7,15 @@ use Rattle.file_model.specs.Disk.{Disk, FileState, empty_file, seen_names, seen,
 use Rattle.file_model.specs.Kept.{IsAtRest}
 use Rattle.file_model.specs.Histories.{Streams, World, History, with_disk, with_streams, with_turn, saying}
 use Rattle.mem_host.specs.Fitting.{fits, can_put, can_put_file}
-use Rattle.mem_host.specs.Events.{Event, put_directory, put_file, looked, did, refused, heard, hear_failed, said, say_failed}
+use Rattle.mem_host.specs.Events.{Event, put_directory, put_file, found, looked, did, refused, heard, hear_failed, said, say_failed}
+
+-- nothing was heard, and these bytes are said
+abbrev pub resting_streams : List ℕ → Streams
+resting_streams bytes = record { heard = []; ended = false; said = bytes; surely_said = length bytes; turns = [] }
 
 -- nothing was heard or said
 abbrev pub silent : Streams
-silent = record { heard = []; ended = false; said = []; surely_said = 0; turns = [] }
+silent = resting_streams []
 
 -- nothing stands anywhere
 abbrev pub empty_disk : Disk
@@ -51,6 +55,7 @@ with_put_file path bytes disk = if can_put_file (seen disk) path bytes then with
 abbrev pub next_world : Event → World → World
 next_world (put_directory path) world = with_disk world (with_put_directory path world.disk)
 next_world (put_file path bytes) world = with_disk world (with_put_file path bytes world.disk)
+next_world (found bytes) world = with_streams world (resting_streams bytes)
 next_world looked world = world
 next_world (did call) world = with_disk world (after_fitting call world.disk)
 next_world (refused call) world = world
@@ -75,6 +80,7 @@ next_world (say_failed bytes n) world = saying world (take n bytes) (length (wor
 abbrev pub instants : Event → World → History → History
 instants (put_directory path) world past = next_world (put_directory path) world ∷ past
 instants (put_file path bytes) world past = next_world (put_file path bytes) world ∷ past
+instants (found bytes) world past = next_world (found bytes) world ∷ past
 instants looked world past = world ∷ past
 instants (did call) world past = next_world (did call) world ∷ world ∷ past
 instants (refused call) world past = with_disk world world.disk ∷ with_disk world (after_fitting call world.disk) ∷ world ∷ past
@@ -102,10 +108,15 @@ world_after (event ∷ earlier) = next_world event (world_after earlier)
 abbrev pub seen_after : List Event → Image
 seen_after events = seen (world_after events).disk
 
+-- the bytes said then
+abbrev pub said_after : List Event → List ℕ
+said_after events = (world_after events).streams.said
+
 -- the event is no call
 abbrev pub IsPut : Event → Type 0
 IsPut (put_directory path) = Unit {0}
 IsPut (put_file path bytes) = Unit {0}
+IsPut (found bytes) = Unit {0}
 IsPut looked = ⊥
 IsPut (did call) = ⊥
 IsPut (refused call) = ⊥
@@ -118,8 +129,9 @@ IsPut (say_failed bytes n) = ⊥
 abbrev pub AllPut : List Event → Type 0
 AllPut events = AllByRecursion IsPut events
 
--- A history of one world, at rest, with nothing heard or said.
+-- A history of one world, at rest, with nothing heard.
 pub record IsUntouched (history : History) : Type 0 where
   pub disk : Disk
-  pub one : history ≡ record { disk = disk; streams = silent } ∷ []
+  pub said : List ℕ
+  pub one : history ≡ record { disk = disk; streams = resting_streams said } ∷ []
   pub at_rest : IsAtRest disk

@@ -13,7 +13,7 @@ use Rattle.file_model.specs.Histories.{World, History, Now}
 use Rattle.file_model.proofs.Sound.{directory_entry, no_directory, seen_orderly, sound_after}
 use Rattle.file_model.proofs.Inside.{not_both}
 use Rattle.file_model.proofs.Orderly.{Orderly, orderly_file, orderly_directory}
-use Rattle.mem_host.specs.Events.{Event, put_directory, put_file, looked, did, refused, heard, hear_failed, said, say_failed}
+use Rattle.mem_host.specs.Events.{Event, put_directory, put_file, found, looked, did, refused, heard, hear_failed, said, say_failed}
 use Rattle.mem_host.specs.Fitting.{reaches, is_nothing, is_empty, are_bytes, has_room, is_free, is_free_for_directory, moves_file, moves_directory, fits, can_put, can_put_file}
 use Rattle.mem_host.specs.Replay.{empty_disk, resting_file, with_directory, with_resting_file, after_fitting, instants, pushed, replay}
 use Rattle.mem_host.specs.State.{State, history_of}
@@ -52,7 +52,7 @@ empty_is : (names : List (List ℕ)) → is_empty names ≡ true → names ≡ [
 empty_is [] is = refl
 empty_is (n ∷ names) is = absurd (cc)
 
-bytes_are : (bytes : List ℕ) → are_bytes bytes ≡ true → AreBytes bytes
+pub bytes_are : (bytes : List ℕ) → are_bytes bytes ≡ true → AreBytes bytes
 bytes_are [] is k below = absurd (omega arith)
 bytes_are (b ∷ bytes) is k below = let parts = both (nat_lt b 256) (are_bytes bytes) is in at k below parts.0 (bytes_are bytes parts.1)
   where
@@ -157,7 +157,7 @@ sound_where : (test : Bool) (disk changed : Disk) → IsSound disk → (test ≡
 sound_where true disk changed sound then = then refl
 sound_where false disk changed sound then = sound
 
-sound_call : (call : Call) (disk : Disk) → IsSound disk → IsSound (after_fitting call disk)
+pub sound_call : (call : Call) (disk : Disk) → IsSound disk → IsSound (after_fitting call disk)
 sound_call call disk sound = sound_where (fits call (seen disk)) disk (after call disk) sound (λ is. sound_after call disk (fits_is call (seen disk) is) sound)
 
 abbrev pub IsSoundNow : History → Type 0
@@ -166,6 +166,7 @@ IsSoundNow history = Now history (λ world. IsSound world.disk)
 sound_instants : (event : Event) (world : World) (past : History) → IsSound world.disk → IsSoundNow (instants event world past)
 sound_instants (put_directory path) world past sound = sound_where (can_put (seen world.disk) path) world.disk (with_directory path world.disk) sound (λ is. sound_directory path world.disk is sound)
 sound_instants (put_file path bytes) world past sound = sound_where (can_put_file (seen world.disk) path bytes) world.disk (with_resting_file path bytes world.disk) sound (λ is. sound_file path bytes world.disk is sound)
+sound_instants (found bytes) world past sound = sound
 sound_instants looked world past sound = sound
 sound_instants (did call) world past sound = sound_call call world.disk sound
 sound_instants (refused call) world past sound = sound

@@ -1,12 +1,12 @@
 -- What a host in memory stands for.
-use Rattle.std.specs.Prelude.{ℕ, List, ◌∷◌, Bool, ◌≡◌, ◌+◌, ◌-◌, ◌^◌, ◌==◌, min}
+use Rattle.std.specs.Prelude.{ℕ, List, [], ◌∷◌, Bool, ◌≡◌, ◌+◌, ◌-◌, ◌^◌, ◌==◌, min}
 use Rattle.std.specs.List.{list_any}
 use Rattle.file_model.specs.Images.{Image}
 use Rattle.file_model.specs.Causes.{Faults}
 use Rattle.file_model.specs.Histories.{History}
 use Rattle.mem_host.specs.Events.{Event, looked}
 use Rattle.mem_host.specs.Coming.{Coming}
-use Rattle.mem_host.specs.Replay.{replay, seen_after, world_after}
+use Rattle.mem_host.specs.Replay.{replay, seen_after, world_after, IsUntouched}
 
 -- what the host was asked, and what it is still to do
 pub record State : Type 0 where
@@ -59,3 +59,11 @@ pub record IsReading (old new : State) : Type 0 where
   pub fails : new.fails ≡ old.fails
   pub coming : new.coming ≡ old.coming
   pub events : new.events ≡ looked ∷ old.events
+
+-- At rest, with no input, no failing calls, and nothing counted.
+pub record IsFresh (state : State) : Type 0 where
+  pub untouched : IsUntouched (history_of state)
+  pub coming : state.coming ≡ record { bytes = []; cuts = [] }
+  pub fails : state.fails ≡ []
+  pub calls : state.calls ≡ 0
+  pub faults : state.faults ≡ record { file = 0; hear = 0; say = 0; read = 0 }

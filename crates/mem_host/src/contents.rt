@@ -27,7 +27,11 @@ pub(crate) fn write_content(
     }
 }
 
-fn write_bytes(content: &mut Vec<u8>, place: usize, bytes: &[u8]) -> Result<(), AllocError>
+pub(crate) fn write_bytes(
+    content: &mut Vec<u8>,
+    place: usize,
+    bytes: &[u8],
+) -> Result<(), AllocError>
     requires { place ≤ length content.old.items }
     ensures ok { OnOk result (content.new.items ≡ written place bytes.now content.old.items) }
     ensures err { OnErr result (content.new.items ≡ content.old.items) }

@@ -7,12 +7,16 @@
 
 mod apply;
 mod contents;
+mod crash;
+mod draft;
 mod files;
 mod host;
 mod input;
+mod log;
 mod mirror;
 mod names;
 mod record;
+mod remains;
 mod streams;
 
 pub use host::MemHost;

@@ -1,17 +1,20 @@
 // What reads see of the disk, kept beside the record that it is the outcome of.
-ghost use Rattle.std.specs.Prelude.{◌≡◌, ◌≤◌, ◌-◌, ◌∷◌, min, length, take, drop, map, string_bytes, [], List, ℕ, IfOk, OnOk, OnErr, None, true, false, option_map, if◌then◌else◌};
+ghost use Rattle.std.specs.Prelude.{◌≡◌, ◌≤◌, ◌-◌, ◌∷◌, min, length, take, drop, map, string_bytes, [], List, ℕ, IfOk, IfSome, OnOk, OnErr, None, true, false, option_map, if◌then◌else◌};
 ghost use Rattle.std.specs.Borrow.{Bor};
 ghost use Rattle.std.specs.Str.{bytes_eq};
-ghost use Rattle.file_model.specs.Images.{node_at, bytes_at, is_directory, names_in, file, directory};
+ghost use Rattle.file_model.specs.Images.{Image, Node, nothing, node_at, bytes_at, is_directory, names_in, file, directory};
 ghost use Rattle.file_model.specs.Kinds.{kind_of, IsFile, Fits, Gives};
-ghost use Rattle.mem_host.specs.Events.{looked, did, refused, heard, hear_failed, said, say_failed};
+ghost use Rattle.mem_host.specs.Events.{found, looked, did, refused, heard, hear_failed, said, say_failed};
 ghost use Rattle.mem_host.specs.Fitting.{can_put};
-ghost use Rattle.mem_host.specs.Replay.{seen_after, AllPut};
-ghost use Rattle.mem_host.specs.Putting.{NoFileAbove, with_parents};
+ghost use Rattle.mem_host.specs.Replay.{seen_after, said_after, AllPut};
+ghost use Rattle.mem_host.specs.Fitted.{AllFit};
+ghost use Rattle.mem_host.specs.Finding.{events_of, Holds, IsRooted, CanRest, IsNodeOf, CanPutNext};
+ghost use Rattle.mem_host.specs.Putting.{NoFileAbove, with_parents, with_node};
 
 use crate::apply::apply;
+use crate::log::{Deed, Log};
 use crate::names::{Place, content_at, kind_at, names_in, put_content, put_name};
-use crate::record::{Note, Record, Request};
+use crate::record::{Note, Request};
 use file_model::{Failed, Kind};
 use std::alloc::{AllocError, Global};
 use std::collections::BTreeMap;
@@ -22,7 +25,7 @@ pub(crate) struct Mirror {
     alloc: Global,
     names: BTreeMap<String, Place>,
     contents: Vec<Vec<u8>>,
-    record: Record,
+    log: Log,
 }
 
 impl Model for Mirror {
@@ -31,9 +34,9 @@ impl Model for Mirror {
 
     ghost Value = { List Event };
 
-    ghost use Rattle.mem_host.specs.Mirror.{events_of, IsMirror};
+    ghost use Rattle.mem_host.specs.Mirror.{logged_events, IsMirror};
 
-    ghost view = { events_of };
+    ghost view = { logged_events };
 
     ghost invariant = { IsMirror };
 }
@@ -60,7 +63,7 @@ impl Mirror {
             alloc,
             names: BTreeMap::new(alloc),
             contents: Vec::new(alloc),
-            record: Record::new(),
+            log: Log::new(alloc),
         }
     }
 
@@ -114,31 +117,35 @@ impl Mirror {
         if apply(self.alloc, &mut self.names, &mut self.contents, request).is_err() {
             return Err(Failed);
         }
-        self.record.add(&Note::Did(request));
+        self.log.add(self.alloc, &Note::Did(request));
         Ok(())
     }
 
     /// Puts a directory on the disk at rest, unless one stands there.
     pub(crate) fn put_directory(&mut self, path: &str) -> Result<(), AllocError>
+        requires puts { AllPut self.old }
         requires no_file { bytes_at (seen_after self.old) path.now ≡ None }
         requires room { can_put (seen_after self.old) path.now ≡ true }
         ensures ok { OnOk result ((q : List ℕ) → node_at (seen_after self.new) q ≡ (if bytes_eq q path.now then directory else node_at (seen_after self.old) q)) }
         ensures err { OnErr result (self.new ≡ self.old) }
-        ensures puts { AllPut self.old → AllPut self.new }
+        ensures puts { AllPut self.new }
+        ensures said { said_after self.new ≡ said_after self.old }
     {
         if !self.names.contains_key(path) {
             put_name(self.alloc, &mut self.names, path, Place::Dir)?;
-            self.record.add(&Note::PutDirectory(path));
+            self.log.add(self.alloc, &Note::PutDirectory(path));
         }
         Ok(())
     }
 
     /// Puts the directories that a path leads through.
     pub(crate) fn put_parents(&mut self, path: &str) -> Result<(), AllocError>
-        requires { NoFileAbove (seen_after self.old) path.now }
+        requires puts { AllPut self.old }
+        requires clear { NoFileAbove (seen_after self.old) path.now }
         ensures ok { OnOk result ((q : List ℕ) → node_at (seen_after self.new) q ≡ with_parents (seen_after self.old) path.now q) }
         ensures err { OnErr result ((q : List ℕ) → bytes_at (seen_after self.new) q ≡ bytes_at (seen_after self.old) q) }
-        ensures puts { AllPut self.old → AllPut self.new }
+        ensures puts { AllPut self.new }
+        ensures said { said_after self.new ≡ said_after self.old }
     {
         for (at, byte) in path.as_bytes().iter().enumerate() {
             if *byte == b'/' && at > 0 {
@@ -150,53 +157,122 @@ impl Mirror {
 
     /// Puts a file on the disk at rest.
     pub(crate) fn put_file(&mut self, path: &str, bytes: &[u8]) -> Result<(), AllocError>
+        requires puts { AllPut self.old }
         requires no_directory { is_directory (seen_after self.old) path.now ≡ false }
         requires room { can_put (seen_after self.old) path.now ≡ true }
         ensures ok { OnOk result ((q : List ℕ) → node_at (seen_after self.new) q ≡ (if bytes_eq q path.now then file bytes.now else node_at (seen_after self.old) q)) }
         ensures err { OnErr result (self.new ≡ self.old) }
-        ensures puts { AllPut self.old → AllPut self.new }
+        ensures puts { AllPut self.new }
+        ensures said { said_after self.new ≡ said_after self.old }
     {
         let copy = Vec::from_slice(self.alloc, bytes)?;
         put_content(self.alloc, &mut self.names, &mut self.contents, path, copy)?;
-        self.record.add(&Note::PutFile(path, bytes));
+        self.log.add(self.alloc, &Note::PutFile(path, bytes));
         Ok(())
+    }
+
+    /// Puts what stands at a name.
+    fn put(&mut self, path: &str, place: Place, contents: &[Vec<u8>]) -> Result<(), AllocError>
+        requires { CanPutNext path.now place contents.now self.old }
+        ensures ok { OnOk result ((node : Node) → IsNodeOf place contents.now node → (q : List ℕ) → node_at (seen_after self.new) q ≡ with_node (seen_after self.old) path.now node q) }
+        ensures puts { AllPut self.new }
+        ensures said { said_after self.new ≡ said_after self.old }
+    {
+        self.put_parents(path)?;
+        match place {
+            Place::Dir => self.put_directory(path),
+            Place::File(id) => self.put_file(path, contents[id].as_slice()),
+        }
+    }
+
+    /// Puts all that names lead to, where nothing stands.
+    pub(crate) fn put_all(
+        &mut self,
+        names: &BTreeMap<String, Place>,
+        contents: &[Vec<u8>],
+    ) -> Result<(), AllocError>
+        requires puts { AllPut self.old }
+        requires nothing { (q : List ℕ) → node_at (seen_after self.old) q ≡ nothing }
+        requires rest { CanRest names.now contents.now }
+        ensures ok { OnOk result ((image : Image) → Holds names.now contents.now image → IsRooted image → (q : List ℕ) → node_at (seen_after self.new) q ≡ node_at image q) }
+        ensures puts { AllPut self.new }
+        ensures said { said_after self.new ≡ said_after self.old }
+    {
+        for (path, _) in names.iter() {
+            if let Some(place) = names.get(path.as_str()) {
+                self.put(path.as_str(), *place, contents)?;
+            }
+        }
+        Ok(())
+    }
+
+    /// Puts all that stands here where nothing stands.
+    pub(crate) fn copy_to(&self, other: &mut Mirror) -> Result<(), AllocError>
+        requires puts { AllPut other.old }
+        requires nothing { (q : List ℕ) → node_at (seen_after other.old) q ≡ nothing }
+        ensures ok { OnOk result ((q : List ℕ) → node_at (seen_after other.new) q ≡ node_at (seen_after self.now) q) }
+        ensures puts { AllPut other.new }
+        ensures said { said_after other.new ≡ said_after other.old }
+    {
+        other.put_all(&self.names, self.contents.as_slice())
+    }
+
+    /// What a crash found said.
+    pub(crate) fn find(&mut self, bytes: &[u8])
+        requires { AllPut self.old }
+        ensures { self.new ≡ found bytes.now ∷ self.old }
+    {
+        self.log.add(self.alloc, &Note::Found(bytes));
+    }
+
+    /// The deeds of the log, unless one was lost.
+    pub(crate) fn deeds(&self) -> Option<&[Deed]>
+        ensures events { IfSome result (λ deeds. events_of deeds.now ≡ self.now) }
+        ensures fit { AllFit self.now }
+    {
+        self.log.deeds()
+    }
+
+    pub(crate) fn alloc(&self) -> Global {
+        self.alloc
     }
 
     /// A call that changed nothing.
     pub(crate) fn look(&mut self)
         ensures { self.new ≡ looked ∷ self.old }
     {
-        self.record.add(&Note::Looked);
+        self.log.add(self.alloc, &Note::Looked);
     }
 
     pub(crate) fn refuse(&mut self, request: Request<'_>)
+        requires { Fits (call_of request) (seen_after self.old) }
         ensures { self.new ≡ refused (call_of request.entry) ∷ self.old }
     {
-        self.record.add(&Note::Refused(request));
+        self.log.add(self.alloc, &Note::Refused(request));
     }
 
     pub(crate) fn hear(&mut self, room: usize, piece: &[u8])
         ensures { self.new ≡ heard room piece.now ∷ self.old }
     {
-        self.record.add(&Note::Heard(room, piece));
+        self.log.add(self.alloc, &Note::Heard(room, piece));
     }
 
     pub(crate) fn hear_nothing(&mut self)
         ensures { self.new ≡ hear_failed ∷ self.old }
     {
-        self.record.add(&Note::HearFailed);
+        self.log.add(self.alloc, &Note::HearFailed);
     }
 
     pub(crate) fn say(&mut self, bytes: &[u8])
         ensures { self.new ≡ said bytes.now ∷ self.old }
     {
-        self.record.add(&Note::Said(bytes));
+        self.log.add(self.alloc, &Note::Said(bytes));
     }
 
     /// A call that failed, but said some of the bytes.
     pub(crate) fn say_part(&mut self, bytes: &[u8], count: usize)
         ensures { self.new ≡ say_failed bytes.now count ∷ self.old }
     {
-        self.record.add(&Note::SayFailed(bytes, count));
+        self.log.add(self.alloc, &Note::SayFailed(bytes, count));
     }
 }

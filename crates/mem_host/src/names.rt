@@ -65,8 +65,8 @@ pub(crate) fn rename_in(
     }
 }
 
-// Moves the name of a file.
-fn move_name(
+/// Moves the name of a file.
+pub(crate) fn move_name(
     alloc: Global,
     names: &mut BTreeMap<String, Place>,
     from: &str,
@@ -167,8 +167,8 @@ fn name_within<'a>(dir: &str, path: &'a str) -> Option<&'a str>
     }
 }
 
-// The names after a directory was moved with all that is in it.
-fn moved_names(
+/// The names after a directory was moved with all that is in it.
+pub(crate) fn moved_names(
     alloc: Global,
     names: &BTreeMap<String, Place>,
     from: &str,

@@ -24,6 +24,7 @@ pub(crate) enum Request<'a> {
 pub(crate) enum Note<'a> {
     PutDirectory(&'a str),
     PutFile(&'a str, &'a [u8]),
+    Found(&'a [u8]),
     Looked,
     Did(Request<'a>),
     Refused(Request<'a>),

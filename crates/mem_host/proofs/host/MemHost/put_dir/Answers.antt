@@ -2,32 +2,29 @@ use Rattle.std.proofs.Common.{sym, ◌∙◌, ap}
 use Rattle.file_model.specs.Images.{node_at}
 use Rattle.mem_host.specs.Replay.{seen_after}
 use Rattle.mem_host.proofs.Putting.{room_end}
-use Rattle.mem_host.proofs.Resting.{untouched, silent_after}
+use Rattle.mem_host.proofs.Resting.{untouched}
 use Rattle.mem_host.proofs.host.MemHost.put_dir.Goals as goal
 
 pub put_directory-requires-clause-room : goal.put_directory-requires-clause-room
 put_directory-requires-clause-room c = room_end c.args.path.now (node_at (seen_after c.put_parents.new.self)) (seen_after c.self.inside.mirror) c.in_ok-put_parents.ensures.ok
 
+pub put_parents-requires-clause-puts : goal.put_parents-requires-clause-puts
+put_parents-requires-clause-puts c = c.self.invariant.untouched (ap (λ state. state.calls) c.self.view_is ∙ c.requires.untouched)
+
 pub invariant_of-self : goal.invariant_of-self
-invariant_of-self c =
-    let before = c.self.invariant.untouched (ap (λ state. state.calls) c.self.view_is ∙ c.requires.untouched) in
-    let after = c.put_parents.ensures.puts before in record {
-      said = c.self.invariant.said ∙ ap (λ streams. streams.said) (silent_after c.self.inside.mirror before ∙ sym (silent_after c.put_parents.new.self after));
-      untouched = λ none. after;
-    }
+invariant_of-self c = record {
+  said = c.self.invariant.said ∙ sym c.put_parents.ensures.said;
+  untouched = λ none. c.put_parents.ensures.puts;
+}
 
 pub returns-in_err-put_parents-clause-at_rest : goal.returns-in_err-put_parents-clause-at_rest
-returns-in_err-put_parents-clause-at_rest c =
-    untouched c.put_parents.new.self (c.put_parents.ensures.puts (c.self.invariant.untouched (ap (λ state. state.calls) c.self.view_is ∙ c.requires.untouched)))
+returns-in_err-put_parents-clause-at_rest c = untouched c.put_parents.new.self c.put_parents.ensures.puts
 
 pub invariant_of-self-2 : goal.invariant_of-self-2
-invariant_of-self-2 c =
-    let before = c.self.invariant.untouched (ap (λ state. state.calls) c.self.view_is ∙ c.requires.untouched) in
-    let after = c.put_directory.ensures.puts (c.put_parents.ensures.puts before) in record {
-      said = c.self.invariant.said ∙ ap (λ streams. streams.said) (silent_after c.self.inside.mirror before ∙ sym (silent_after c.put_directory.new.self after));
-      untouched = λ none. after;
-    }
+invariant_of-self-2 c = record {
+  said = c.self.invariant.said ∙ sym (c.put_directory.ensures.said ∙ c.put_parents.ensures.said);
+  untouched = λ none. c.put_directory.ensures.puts;
+}
 
 pub returns-clause-at_rest : goal.returns-clause-at_rest
-returns-clause-at_rest c =
-    untouched c.put_directory.new.self (c.put_directory.ensures.puts (c.put_parents.ensures.puts (c.self.invariant.untouched (ap (λ state. state.calls) c.self.view_is ∙ c.requires.untouched))))
+returns-clause-at_rest c = untouched c.put_directory.new.self c.put_directory.ensures.puts

@@ -4,7 +4,7 @@ use Rattle.std.specs.Str.{bytes_eq}
 use Rattle.std.proofs.lemmas.Grind.{common_steps}
 use Rattle.file_model.specs.Images.{node_at, bytes_at, directory}
 use Rattle.mem_host.specs.Fitting.{can_put}
-use Rattle.mem_host.specs.Replay.{seen_after, AllPut}
+use Rattle.mem_host.specs.Replay.{seen_after, said_after, AllPut}
 use Rattle.mem_host.proofs.Putting.{room_next, is_above_before, next_parent, no_next_parent, all_parents, no_file_next}
 use Rattle.mem_host.proofs.mirror.Mirror.put_parents.Goals as goal
 use Rattle.mem_host.proofs.mirror.Mirror.put_parents.Goals.{then-byte-eq47+then-at-gt0+in_ok-put_directory, else-byte-eq47, else-byte-eq47-via-then-byte-eq47+else-at-gt0, else-byte-eq47-via-else-byte-eq47}
@@ -19,7 +19,7 @@ put_directory-requires-clause-no_file c =
     let below : at < length path = subst (λ l. at < length l) bytes c.loop-at-test.true in
     let slash : get_or path at 0 ≡ 47 = subst (λ l. get_or l at 0 ≡ 47) bytes c.if-byte-eq47.true in
     ap (bytes_at (seen_after c.loop-at.self)) (c.range.ensures.value ∙ front_range path at)
-    ∙ no_file_next path at (node_at (seen_after c.loop-at.self) (take at path)) (seen_after c.args.self.now) c.requires below slash c.if-at-gt0.true (c.loop-at.invariant.stands (take at path))
+    ∙ no_file_next path at (node_at (seen_after c.loop-at.self) (take at path)) (seen_after c.args.self.now) c.requires.clear below slash c.if-at-gt0.true (c.loop-at.invariant.stands (take at path))
 
 pub put_directory-requires-clause-room : goal.put_directory-requires-clause-room
 put_directory-requires-clause-room c =
@@ -41,7 +41,8 @@ loop-at-preserved c =
             (subst (λ l. get_or l at 0 ≡ 47) bytes w.if-byte-eq47.true) w.if-at-gt0.true
             (λ p. w.in_ok-put_directory.ensures.ok p ∙ ap (λ dir. cond (bytes_eq p dir) directory (node_at (seen_after c.loop-at.self) p)) (w.range.ensures.value ∙ front_range path at))
             c.loop-at.invariant.stands;
-        puts = λ all. subst AllPut (sym w.self-is) (w.in_ok-put_directory.ensures.puts (c.loop-at.invariant.puts all));
+        puts = subst AllPut (sym w.self-is) w.in_ok-put_directory.ensures.puts;
+        said = ap said_after w.self-is ∙ w.in_ok-put_directory.ensures.said ∙ c.loop-at.invariant.said;
       }
       | else-byte-eq47 w ↦ record {
         bytes = bytes;
@@ -51,7 +52,8 @@ loop-at-preserved c =
               | else-byte-eq47-via-then-byte-eq47+else-at-gt0 v ↦ λ slash some. absurd (omega (arith, v.if-at-gt0.false))
               | else-byte-eq47-via-else-byte-eq47 v ↦ λ slash some. absurd (v.if-byte-eq47.false (ap (λ l. get_or l at 0) bytes ∙ slash))
             ]) (c.loop-at.invariant.stands q);
-        puts = λ all. subst AllPut (sym w.self-is) (c.loop-at.invariant.puts all);
+        puts = subst AllPut (sym w.self-is) c.loop-at.invariant.puts;
+        said = ap said_after w.self-is ∙ c.loop-at.invariant.said;
       }
     ]
 
