@@ -1,0 +1,11 @@
+pub mod Appending
+pub mod Changing
+pub mod Counting
+pub mod Created
+pub mod Fronts
+pub mod Many
+pub mod Opened
+pub mod Reading
+pub mod Removed
+pub mod Words
+pub mod Writing
