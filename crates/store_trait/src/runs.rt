@@ -11,7 +11,7 @@ ghost use Rattle.store_trait.specs.Changes.{CanChangeStore, due_refusal};
 ghost use Rattle.store_trait.specs.Meaning.{IsWritten};
 ghost use Rattle.store_trait.specs.OwnPaths.{IsForeign};
 ghost use Rattle.store_trait.specs.Promises.{IsSame, BreaksBy, CanAsk, LeavesAlone, LeavesRest, RanOnFiles, AnswersChange, ChangesStore, CommitsChange};
-ghost use Rattle.store_trait.specs.Runs.{CanRun, EndsWell, run_failed, all_changed, all_contents, done_of};
+ghost use Rattle.store_trait.specs.Runs.{CanRun, EndsWell, BreaksRun, run_failed, all_changed, all_contents, done_of};
 
 use crate::{Change, Store, StoreFault};
 use file_model::Files;
@@ -68,6 +68,7 @@ pub fn run<F: Files, S: Store<F>>(
     ensures done { EndsWell result → Ended (λ start end. (S.view store.new).mailbox (seen end) ≡ all_changed (keeps_of (S.view store.old).driver) ((S.view store.old).mailbox (seen start)) (take (done_of result) changes.now)) (F.history files.old) (F.history files.new) }
     ensures stored { EndsWell result → Ended (λ start end. (before : StoreContents) → IsWritten (S.grammar (S.view store.old).driver (S.view store.old).path) (seen start) before
         → IsWritten (S.grammar (S.view store.old).driver (S.view store.old).path) (seen end) (all_contents (S.view store.old).driver before ((S.view store.old).mailbox (seen start)) (take (done_of result) changes.now))) (F.history files.old) (F.history files.new) }
+    ensures breaks { IsTrue (S.view store.new).broken ↔ (IsTrue (S.view store.old).broken ⊎ BreaksRun result) }
     ensures stands { EndsWell result → CanAsk (S.view store.new) (F.history files.new) }
 
     // What it leaves alone.
