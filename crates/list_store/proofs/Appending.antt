@@ -87,9 +87,6 @@ module _ (m : Mailbox) (new : List NewMessage) (words : List (List ℕ)) where
   abbrev long : Bool
   long = nat_lt file_limit (list_length (add_messages (keeps_of Mbx) m new words))
 
-  pub due_uid : no_uid ≡ true → append_due m new words ≡ Some NoUid
-  due_uid a = rw a refl
-
   pub due_many : no_uid ≡ false → many ≡ true → append_due m new words ≡ Some TooMany
   due_many a b = rw (a, b) refl
 

@@ -21,13 +21,12 @@ use Rattle.mail_types.specs.Limits.{file_limit, text_limit, record_limit, has_ma
 use Rattle.mail_types.specs.Stored.{stored_record, stored_contents}
 use Rattle.mail_types.specs.Lists.{cleared, named, changed_record, changed_records, change_flags, undropped}
 use Rattle.mail_types.specs.declared.message.FlagChange.{FlagChange}
-use Rattle.mail_types.specs.declared.driver.Keeps.{Keeps}
 use Rattle.mail_types.proofs.Dropping.{undropped_none}
 use Rattle.store_trait.specs.declared.change.Change.{Change}
 use Rattle.store_trait.specs.declared.change.Change.TheVariants.{Append, SetFlags, Expunge}
 use Rattle.store_trait.specs.declared.faults.StoreFault.{StoreFault}
 use Rattle.store_trait.specs.Answers.{Breaks, breaks}
-use Rattle.store_trait.specs.Changes.{CanChange, IsNextWords, IsSized, changed_mailbox, changed_contents, is_nothing, due_refusal}
+use Rattle.store_trait.specs.Changes.{CanChange, IsSized, changed_mailbox, changed_contents, is_nothing, due_refusal}
 use Rattle.store_trait.specs.Meaning.{IsWritten, IsReadable}
 use Rattle.store_trait.specs.Promises.{AnswersChange, ChangesStore, SeesRest, Stores}
 use Rattle.store_trait.specs.Views.{summary_of, info_of}
@@ -236,6 +235,3 @@ changed_length names place cs (r ∷ rs) = omega (arith, ap length (one_text nam
 pub flags_length : (m : Mailbox) (changes : List FlagChange) (words : List (List ℕ)) → list_length (change_flags m changes words) ≡ list_length m
 flags_length m changes words =
     ap (λ n. 2226 + n) (changed_length (length words) 0 changes (map (cleared (length m.words) (length words)) m.records) ∙ cleared_length (length m.words) (length words) m.records)
-
-pub more_words : (keeps : Keeps) (old new : List (List ℕ)) → IsNextWords keeps old new → length old ≤ length new
-more_words keeps old new is = omega (arith, ap length is.begins, length-append old is.more)

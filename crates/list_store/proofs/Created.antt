@@ -4,21 +4,17 @@ use Rattle.std.proofs.lemmas.Bool.Decides.{nat_tests}
 use Rattle.file_model.specs.Disk.{seen}
 use Rattle.file_model.specs.Histories.{History, Now}
 use Rattle.file_model.specs.Images.{Image}
-use Rattle.file_model.specs.Paths.{is_top}
 use Rattle.file_model.proofs.Runs.{now_weaker}
 use Rattle.mail_types.specs.declared.driver.Driver.TheVariants.{Mbx}
 use Rattle.mail_types.specs.Stored.{empty_mailbox, created_contents}
 use Rattle.store_trait.specs.Meaning.{Means}
 use Rattle.store_trait.specs.Promises.{Creates}
 use Rattle.list_store.specs.Laws.{stored_file}
-use Rattle.list_store.specs.ListView.{ListState, HasList, IsWithin, IsReady, list_grammar, list_view}
+use Rattle.list_store.specs.ListView.{ListState, HasList, IsWithin, list_grammar, list_view}
 use Rattle.list_store.proofs.Changing.{no_contents, readable, stands_list}
 
 pub empty_within : (fresh : ℕ) → 1 ≤ fresh → fresh < 2 ^ 32 → IsWithin (empty_mailbox fresh)
 empty_within fresh some fits = record { some = grind (arith, nat_tests, some); validity = fits; last = omega arith; few = omega arith; many = omega arith; records = tt }
-
-pub empty_ready : (path : List ℕ) (fresh : ℕ) → 1 ≤ fresh → fresh < 2 ^ 32 → is_top path ≡ false → IsReady (record { path = path; list = empty_mailbox fresh; broken = false })
-empty_ready path fresh some fits below = record { within = empty_within fresh some fits; long = omega arith; below = below }
 
 module _ (path : List ℕ) (fresh : ℕ) (some : 1 ≤ fresh) (fits : fresh < 2 ^ 32) where
   means_created : (image : Image) → HasList path (empty_mailbox fresh) image → Means (list_grammar Mbx path) Mbx path image (Ok (created_contents Mbx fresh))

@@ -1,6 +1,5 @@
 -- One more of many is read.
 use Rattle.std.proofs.Common.{◌≡◌, ℕ, zero, suc, ◌<◌, List, [], ◌∷◌, ◌++◌, append_assoc, Option, Some, None, refl, sym, ap, ◌∙◌, arith}
-use Rattle.std.proofs.lemmas.List.{append-nil}
 use Rattle.mail_fields.specs.Numbers.{◌>>=◌}
 use Rattle.list_store.specs.ListFile.{many_at_front}
 
@@ -22,10 +21,6 @@ module _ {A : Type 0} (front : List ℕ → Option (A × List ℕ)) where
       ∙ ap (λ (found : Option (A × List ℕ)). with_read old (found >>= (λ first. many_at_front front next first.1 >>= (λ later. Some (first.0 ∷ later.0, later.1))))) (sym first)
       ∙ ap (λ n. with_read old (many_at_front front n text)) (sym more)
       ∙ same
-
-  pub many_end : (read : List A) (left : ℕ) (rest : List ℕ) (all : Option (List A × List ℕ)) → left ≡ 0 → with_read read (many_at_front front left rest) ≡ all → all ≡ Some (read, rest)
-  many_end read left rest all none same =
-      sym same ∙ ap (λ n. with_read read (many_at_front front n rest)) none ∙ ap (λ items. Some (items, rest)) (append-nil read)
 
   pub many_none : (read : List A) (left : ℕ) (rest : List ℕ) (all : Option (List A × List ℕ)) → front rest ≡ None → 0 < left → with_read read (many_at_front front left rest) ≡ all → all ≡ None
   many_none read zero rest all none some same = absurd (omega (arith, some))

@@ -1,5 +1,5 @@
 -- What opening finds, or refuses.
-use Rattle.std.proofs.Common.{◌≡◌, ◌⊎◌, ℕ, zero, suc, ◌+◌, ◌<◌, ◌≤◌, ◌^◌, ◌==◌, ◌&&◌, ◌||◌, Bool, true, false, nat_le, nat_lt, cond, List, [], ◌∷◌, length, map, inl, inr, Option, Some, None, unwrap_or, is_some, Result, Ok, Err, refl, sym, ap, ◌∙◌, subst, arith}
+use Rattle.std.proofs.Common.{◌≡◌, ℕ, zero, suc, ◌+◌, ◌<◌, ◌≤◌, ◌^◌, ◌==◌, ◌&&◌, ◌||◌, Bool, true, false, nat_le, nat_lt, cond, List, [], ◌∷◌, length, map, inl, inr, Option, Some, None, unwrap_or, is_some, Result, Ok, Err, refl, sym, ap, ◌∙◌, subst, arith}
 use Rattle.std.proofs.lemmas.Bool.{and_parts}
 use Rattle.std.proofs.lemmas.Bool.Decides.{nat_tests}
 use Rattle.std.proofs.lemmas.List.{length-map, take_all}
@@ -7,12 +7,10 @@ use Rattle.std.proofs.Common.{length-append, take, IfErr}
 use Rattle.list_store.specs.Within.{or_false}
 use Rattle.std.proofs.lemmas.Option.{same_Some, none-some}
 use Rattle.std.specs.List.{AllByRecursion}
-use Rattle.file_model.specs.declared.files.Kind.{Kind}
-use Rattle.file_model.specs.declared.files.Kind.TheVariants.{Nothing, File, Dir}
 use Rattle.file_model.specs.Disk.{seen}
 use Rattle.file_model.specs.Histories.{History, Now}
-use Rattle.file_model.specs.Images.{Image, Node, nothing, file, directory, node_at, bytes_of, bytes_at, directory_test, is_directory}
-use Rattle.file_model.specs.Kinds.{kind_of, Gives}
+use Rattle.file_model.specs.Images.{Image, bytes_of, bytes_at}
+use Rattle.file_model.specs.Kinds.{Gives}
 use Rattle.file_model.specs.Paths.{is_top}
 use Rattle.file_model.proofs.Runs.{now_weaker, now_both}
 use Rattle.mail_types.specs.declared.contents.Placing.TheVariants.{InPlace}
@@ -34,42 +32,6 @@ use Rattle.list_store.specs.ListReading.{HasFile, IsList, IsFound, Finds, WasFou
 use Rattle.list_store.specs.ListView.{ListState, IsKept, IsWithin, IsReady, list_grammar, list_view, texts_length, list_length}
 use Rattle.list_store.proofs.Counting.{whole_is, list_whole, list_is, no_list, more_than_list, nothing_behind}
 use Rattle.list_store.proofs.Fronts.{IsRead, IsListRead, message_size, sum_of, list_uses}
-
--- ---- What stands at the path
-
-kind_nothing : (node : Node) → Nothing ≡ kind_of node → node ≡ nothing
-kind_nothing nothing is = refl
-kind_nothing (file bytes) is = absurd (cc)
-kind_nothing directory is = absurd (cc)
-
-kind_file : (node : Node) (long : ℕ) → File long ≡ kind_of node → (bytes : List ℕ) × (node ≡ file bytes) × (long ≡ length bytes)
-kind_file nothing long is = absurd (cc)
-kind_file (file bytes) long is = (bytes, refl, cc)
-kind_file directory long is = absurd (cc)
-
-kind_directory : (node : Node) → Dir ≡ kind_of node → (node ≡ nothing) ⊎ (directory_test node ≡ false) → ⊥
-kind_directory nothing is other = absurd (cc)
-kind_directory (file bytes) is other = absurd (cc)
-kind_directory directory is (inl other) = absurd (cc)
-kind_directory directory is (inr other) = absurd (cc)
-
-module _ (path : List ℕ) (kind : Kind) (h : History) (told : Now h (λ w. kind ≡ kind_of (node_at (seen w.disk) path))) where
-  pub absent_refused : kind ≡ Nothing → RefusesOpen (list_grammar Mbx path) Mbx path Absent h
-  absent_refused is = now_weaker _ _ (λ w at. record { is = kind_nothing (node_at (seen w.disk) path) (sym is ∙ at) }) h told
-
-  pub has_file : (long : ℕ) → kind ≡ File long → Now h (λ w. HasFile path long (seen w.disk))
-  has_file long is = now_weaker _ _ (λ w at. kind_file (node_at (seen w.disk) path) long (sym is ∙ at)) h told
-
-  pub large_refused : (long : ℕ) → kind ≡ File long → file_limit < long → RefusesOpen (list_grammar Mbx path) Mbx path (TooLarge FileLimit) h
-  large_refused long is over = now_weaker _ _ (λ w at.
-      let there = kind_file (node_at (seen w.disk) path) long (sym is ∙ at) in
-      record { is = ((λ none. file_is there.0 (sym there.1 ∙ none)), (path, refl, (there.0, ap bytes_of there.1, omega (arith, over, there.2)))) }) h told
-    where
-      file_is : (bytes : List ℕ) → file bytes ≡ nothing → ⊥
-      file_is bytes never = cc
-
-  pub directory_refused : kind ≡ Dir → Now h (λ w. (node_at (seen w.disk) path ≡ nothing) ⊎ (is_directory (seen w.disk) path ≡ false)) → RefusesOpen (list_grammar Mbx path) Mbx path (IllFormed Mbx 0) h
-  directory_refused is other = now_weaker _ _ (λ w both. absurd (kind_directory (node_at (seen w.disk) path) (sym is ∙ both.0) both.1)) h (now_both _ _ h told other)
 
 -- ---- Its bytes
 
@@ -114,9 +76,6 @@ module _ (path text : List ℕ) (image : Image) (has : bytes_at image path ≡ S
   means_large is = record { is = (readable_file, (is.0, list_there is.0 is.1, is.2, is.3)) }
 
 module _ (path text : List ℕ) (h : History) (has : Now h (λ w. bytes_at (seen w.disk) path ≡ Some text)) (short : length text ≤ file_limit) where
-  pub means_now : (contents : StoreContents) → IsFound text (Ok contents) → Now h (λ w. Means (list_grammar Mbx path) Mbx path (seen w.disk) (Ok contents))
-  means_now contents is = now_weaker _ _ (λ w at. means_contents path text (seen w.disk) at short contents is) h has
-
   pub found_refused : (fault : OpenFault) → IsFound text (Err fault) → RefusesOpen (list_grammar Mbx path) Mbx path fault h
   found_refused Absent is = absurd is
   found_refused (IllFormed named count) is = now_weaker _ _ (λ w at. means_ill_formed path text (seen w.disk) at short named count is) h has
@@ -248,9 +207,6 @@ module _ (c : StoreContents) (is : WasFound c) (fresh : ℕ) (some : 1 ≤ fresh
 
   few : length c.records ≤ record_limit
   few = let many : nat_lt record_limit (length c.records) ≡ false = is.finds.is.1 in grind (arith, nat_tests, many)
-
-  pub few_opened : length c.records < 2 ^ 32
-  few_opened = omega (arith, few)
 
   opened_by : (b : Bool) → uids_last c.validity c.last us ≡ b
       → IsWithin (record { validity = validity_if b c.validity fresh; last = cond b (highest c.last us + missing us) (length us); words = c.words; records = with_uids (opened_if b c.last us) c.records })

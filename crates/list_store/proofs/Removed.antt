@@ -27,9 +27,6 @@ use Rattle.list_store.proofs.Writing.{room_now}
 
 -- ---- The two calls
 
-some_file : (node : Node) (bytes : List ℕ) → node ≡ file bytes → bytes_of node ≡ Some bytes
-some_file node bytes is = ap bytes_of is
-
 never_both : {b : Bool} → b ≡ true → b ≡ false → ⊥
 never_both one other = cc
 

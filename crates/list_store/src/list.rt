@@ -51,9 +51,11 @@ pub fn dropped(alloc: Global, list: &Mailbox, places: &[usize]) -> Result<Mailbo
     let words = copy_words(alloc, list.words.as_slice())?;
     let mut left = copy_records(alloc, list.records.as_slice())?;
     drop_places(&mut left, places);
+    // No UID is given twice, also where the last message goes.
+    let last = list.last;
     Ok(Mailbox {
         validity: list.validity,
-        last: list.last,
+        last,
         words,
         records: Records::of(left),
     })
