@@ -6,6 +6,10 @@ pub mod either_store;
 #[cfg(test)]
 mod limits;
 #[cfg(test)]
+mod list_openings;
+#[cfg(test)]
+mod list_runs;
+#[cfg(test)]
 mod mailboxes;
 #[cfg(test)]
 mod openings;

@@ -53,7 +53,7 @@ fn has_uids(records: &[Record], uids: &[u32]) -> bool {
 }
 
 // UIDVALIDITY, highest UID and UIDs as the files have them; the same of the mailbox that is opened with 1001.
-const OPENED: [(Option<u32>, u32, &[u32], u32, u32, &[u32]); 14] = [
+pub(crate) const OPENED: [(Option<u32>, u32, &[u32], u32, u32, &[u32]); 14] = [
     // no UIDVALIDITY
     (None, 0, &[0, 0], 1001, 2, &[1, 2]),
     (None, 9, &[4, 7], 1001, 2, &[1, 2]),
