@@ -1,5 +1,5 @@
 //! What the store of a plain list opens, and which files it refuses.
-ghost use Rattle.std.specs.Prelude.{◌≡◌, ◌≤◌, ◌<◌, ◌∷◌, [], codes, length, List, ℕ, IfOk};
+ghost use Rattle.std.specs.Prelude.{◌≡◌, codes, List, ℕ, IfOk};
 ghost use Rattle.file_model.specs.Disk.{seen};
 ghost use Rattle.file_model.specs.Histories.{Now};
 ghost use Rattle.file_model.specs.Images.{node_at, file};

@@ -19,7 +19,7 @@ pub record IsList (text : List ℕ) (contents : StoreContents) : Type 0 where
   pub reads : list_of text ≡ Some (list_parts contents)
   pub in_place : contents.placing ≡ InPlace
 
--- the text begins with it, and something stands behind
+-- the text begins with it
 pub record BeginsWithList (text : List ℕ) (contents : StoreContents) : Type 0 where
   pub rest : List ℕ
   pub reads : list_at_front text ≡ Some (list_parts contents, rest)

@@ -1,8 +1,6 @@
 // The opening, the making and the removing of a list's file.
-ghost use Rattle.std.specs.Prelude.{◌≡◌, ◌≤◌, true, false, IfOk};
+ghost use Rattle.std.specs.Prelude.{◌≡◌, ◌≤◌, false, IfOk};
 ghost use Rattle.file_model.specs.Paths.{is_top};
-ghost use Rattle.mail_types.specs.declared.driver.Driver.TheVariants.{Mbx};
-ghost use Rattle.mail_types.specs.Drivers.{keeps_of};
 ghost use Rattle.mail_types.specs.Opening.{opened_mailbox};
 ghost use Rattle.mail_types.specs.Stored.{empty_mailbox};
 ghost use Rattle.list_store.specs.ListReading.{WasFound};
