@@ -1,7 +1,7 @@
 -- The top call's clauses, from the loop's.
 use Rattle.std.proofs.Common.{◌≡◌, ◌^◌, ◌⊎◌, inl, inr, ℕ, Bool, true, false, List, [], ◌∷◌, length, take, refl, sym, ◌∙◌, ap, subst}
 use Rattle.std.specs.List.{Contains}
-use Rattle.imap_grammar.specs.Stream.{units_of, unfinished}
+use Rattle.command_lines.specs.Stream.{units_of, unfinished}
 use Rattle.file_model.specs.Images.{Image}
 use Rattle.file_model.specs.Disk.{Disk, MayLeave}
 use Rattle.file_model.specs.Kept.{IsLeftOrMade, NonePending}
@@ -18,7 +18,7 @@ use Rattle.session_loop.specs.Instants.{Answering, Serving, Opened}
 use Rattle.session_loop.specs.Headline.{SaysReplies, IsBounded, IsServed, Survives, commands}
 use Rattle.session_loop.proofs.Instants.{opening_instant}
 use Rattle.session_loop.proofs.Headline.{said_since_each, bounded_since, crash_since}
-use Rattle.imap_grammar.proofs.Streams.{units_first}
+use Rattle.command_lines.proofs.Streams.{units_first}
 use Rattle.imapd_core.specs.declared.server.Status.TheVariants.{Long as Status-Long}
 use Rattle.imapd_core.specs.Replies.{State, StandsFor, IsAlike, Agrees, step, ends, protocol}
 use Rattle.imapd_core.specs.Laws.{is_kept, says_something}

@@ -1,7 +1,7 @@
 -- What holds of every state, disk and line: the laws that the loop asks of a session.
 use Rattle.std.specs.Prelude.{◌≡◌, ℕ, List, [], ◌∷◌, ◌++◌, ◌≢◌, refl, codes, decimal}
 use Rattle.file_model.specs.Images.{Node}
-use Rattle.imap_grammar.specs.Stream.{units_of, unfinished}
+use Rattle.command_lines.specs.Stream.{units_of, unfinished}
 use Rattle.session_loop.specs.Machine.{IsKept, SaysSomething}
 use Rattle.unix_store.specs.declared.mailbox.Counted.{Counted}
 use Rattle.unix_store.specs.declared.mailbox.Counted.TheVariants.{Messages, IllFormed, NotBuilt}

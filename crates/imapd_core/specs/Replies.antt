@@ -3,7 +3,7 @@ use Rattle.std.specs.Prelude.{ℕ, Bool, true, false, List, ◌++◌, ◌≡◌,
 use Rattle.file_model.specs.Images.{Image, Node, nothing, file, directory, node_at}
 use Rattle.file_model.specs.Disk.{Disk, seen}
 use Rattle.file_model.specs.Kept.{Sees, IsLeftOrMade, MayMake, NonePending}
-use Rattle.imap_grammar.specs.Stream.{units_of, unfinished}
+use Rattle.command_lines.specs.Stream.{units_of, unfinished}
 use Rattle.session_loop.specs.Machine.{Answered, Protocol}
 use Rattle.unix_store.specs.declared.mailbox.Counted.{Counted}
 use Rattle.unix_store.specs.declared.mailbox.Counted.TheVariants.{Messages, IllFormed, NotBuilt}

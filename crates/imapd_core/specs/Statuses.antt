@@ -1,6 +1,6 @@
 -- The statuses of the top call.
 use Rattle.std.specs.Prelude.{ℕ, Bool, true, false, List, [], ◌∷◌, ◌++◌, ◌≡◌, ◌≢◌, ◌≤◌, ◌^◌, length}
-use Rattle.imap_grammar.specs.Stream.{units_of, unfinished}
+use Rattle.command_lines.specs.Stream.{units_of, unfinished}
 use Rattle.file_model.specs.Histories.{World}
 use Rattle.file_model.specs.Causes.{Faults, Rose}
 use Rattle.file_model.specs.Images.{node_at}

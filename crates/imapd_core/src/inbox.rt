@@ -12,8 +12,8 @@ ghost use Rattle.imapd_core.specs.Lines.{is_logout};
 use crate::line::{Command, read_command, reply_tag};
 use crate::reading::count_at;
 use crate::reply::{bad_reply, logout_reply, status_reply};
+use command_lines::Line;
 use file_model::{Files, Host};
-use imap_grammar::Line;
 use session_loop::{Answers, Next, Stop};
 use std::alloc::{AllocError, Global};
 

@@ -2,8 +2,8 @@
 use Rattle.std.proofs.Common.{ℕ, ◌<◌, ◌≤◌, length, Bool, false, List, [], ◌++◌, ◌≡◌, refl, sym, ◌∙◌, ap, subst, Result, Ok, Err}
 use Rattle.std.proofs.lemmas.List.{append-nil}
 use Rattle.std.specs.Result.{is_err, OnOk}
-use Rattle.imap_grammar.specs.Stream.{units_of as line_units}
-use Rattle.imap_grammar.specs.Taken.{Adds}
+use Rattle.command_lines.specs.Stream.{units_of as line_units}
+use Rattle.command_lines.specs.Taken.{Adds}
 use Rattle.file_model.specs.declared.files.Failed.{Failed}
 use Rattle.file_model.specs.Disk.{Disk}
 use Rattle.file_model.specs.Histories.{History, Now, Passed, Hears, Says}

@@ -1,6 +1,6 @@
 // What the loop needs of a session.
 ghost use Rattle.std.specs.Prelude.{◌≡◌, ◌∷◌, [], List, ℕ, IfOk, OnOk};
-ghost use Rattle.imap_grammar.specs.Stream.{units_of, unfinished};
+ghost use Rattle.command_lines.specs.Stream.{units_of, unfinished};
 ghost use Rattle.file_model.specs.Disk.{Disk};
 ghost use Rattle.file_model.specs.Histories.{Now, Passed};
 ghost use Rattle.file_model.specs.Arrived.{Arrived};
@@ -8,8 +8,8 @@ ghost use Rattle.session_loop.specs.Machine.{Protocol, IsKept, SaysSomething};
 ghost use Rattle.session_loop.specs.Instants.{Answering, HasAnswered};
 ghost use Rattle.session_loop.specs.Outcome.{next_of, UnitCause};
 
+use command_lines::Line;
 use file_model::Host;
-use imap_grammar::Line;
 
 /// Whether a session goes on.
 #[derive(Clone, Copy, Debug, PartialEq, Eq)]

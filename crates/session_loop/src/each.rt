@@ -7,8 +7,8 @@ ghost use Rattle.session_loop.specs.Instants.{Answering, HasAnswered};
 ghost use Rattle.session_loop.specs.Outcome.{next_of, UnitCause};
 
 use crate::answers::{Answers, Next, Stop};
+use command_lines::Line;
 use file_model::Host;
-use imap_grammar::Line;
 
 /// Answers units in order, up to one that ends the session.
 pub fn answer_each<H: Host, S: Answers<H>>(

@@ -1,6 +1,6 @@
 // The units of a piece that was heard.
 ghost use Rattle.std.specs.Prelude.{◌≡◌, ◌⊎◌, ◌++◌, List, ℕ, Bool, false, length};
-ghost use Rattle.imap_grammar.specs.Taken.{HasTaken};
+ghost use Rattle.command_lines.specs.Taken.{HasTaken};
 ghost use Rattle.file_model.specs.Histories.{History, Now, Passed};
 ghost use Rattle.file_model.specs.Arrived.{Arrived};
 ghost use Rattle.session_loop.specs.Machine.{commands_in, is_over};
@@ -12,8 +12,8 @@ ghost use Rattle.session_loop.specs.declared.end.Turn.TheVariants.{Goes, Over};
 use crate::answers::{Answers, Next};
 use crate::each::answer_each;
 use crate::end::{End, Turn, end_of};
+use command_lines::{Feed, Line};
 use file_model::Host;
-use imap_grammar::{Feed, Line};
 
 /// Cuts a piece that was heard into units, and answers each that is whole now.
 pub fn answer_piece<H: Host, S: Answers<H>>(

@@ -1,6 +1,6 @@
 // A whole session.
 ghost use Rattle.std.specs.Prelude.{◌≡◌, ◌<◌, ◌≤◌, ◌⊎◌, ◌++◌, List, ℕ, Bool, [], false, length, take};
-ghost use Rattle.imap_grammar.specs.Taken.{HasTaken};
+ghost use Rattle.command_lines.specs.Taken.{HasTaken};
 ghost use Rattle.std.specs.List.{Contains};
 ghost use Rattle.file_model.specs.Images.{Image};
 ghost use Rattle.file_model.specs.Disk.{MayLeave};
@@ -14,8 +14,8 @@ ghost use Rattle.session_loop.specs.Outcome.{EndCause, IsFault};
 use crate::answers::Answers;
 use crate::end::{End, Turn};
 use crate::turn::turn;
+use command_lines::{Feed, Line};
 use file_model::Host;
-use imap_grammar::{Feed, Line};
 use std::alloc::Global;
 
 /// The most bytes that a session hears.

@@ -1,7 +1,7 @@
 // One turn of the loop.
 ghost use Rattle.std.specs.Prelude.{◌≡◌, ◌≢◌, ◌+◌, ◌<◌, ◌≤◌, ◌⊎◌, ◌++◌, List, ℕ, Bool, false, true, length, take};
-ghost use Rattle.imap_grammar.specs.Stream.{unfinished};
-ghost use Rattle.imap_grammar.specs.Taken.{HasTaken};
+ghost use Rattle.command_lines.specs.Stream.{unfinished};
+ghost use Rattle.command_lines.specs.Taken.{HasTaken};
 ghost use Rattle.file_model.specs.Histories.{History, Now, Passed};
 ghost use Rattle.file_model.specs.Arrived.{Arrived};
 ghost use Rattle.session_loop.specs.Machine.{answered, commands_in, is_over};
@@ -13,8 +13,8 @@ ghost use Rattle.session_loop.specs.declared.end.Turn.TheVariants.{Goes, Over};
 use crate::answers::Answers;
 use crate::end::{End, Turn};
 use crate::piece::answer_piece;
+use command_lines::{Feed, Line};
 use file_model::Host;
-use imap_grammar::{Feed, Line};
 
 /// Hears a piece, and answers each unit that is whole now.
 pub fn turn<H: Host, S: Answers<H>>(

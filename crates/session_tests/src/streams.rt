@@ -1,5 +1,5 @@
 //! Streams with their lines as RFC 3501 has them, cut in many ways.
-use imap_grammar::{Feed, units_of_pieces};
+use command_lines::{Feed, units_of_pieces};
 use std::alloc::Global;
 use std::process::Abort;
 use std::test::Fail;

@@ -1,5 +1,5 @@
 use Rattle.std.proofs.Common.{◌≡◌, ◌+◌, ◌^◌, List, ℕ, [], false, length}
-use Rattle.imap_grammar.specs.Taken.{HasTaken}
+use Rattle.command_lines.specs.Taken.{HasTaken}
 use Rattle.file_model.specs.Histories.{History, Now, Passed}
 use Rattle.file_model.specs.Arrived.{Arrived}
 use Rattle.session_loop.specs.Machine.{commands_in, is_over}

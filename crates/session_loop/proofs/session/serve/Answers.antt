@@ -1,6 +1,6 @@
 use Rattle.std.proofs.Common.{◌≡◌, List, ℕ, [], ap, refl, false, Result, Ok, Err, subst, Bool}
 use Rattle.std.specs.Result.{is_err}
-use Rattle.imap_grammar.proofs.Streams.{units_first}
+use Rattle.command_lines.proofs.Streams.{units_first}
 use Rattle.file_model.specs.declared.files.Failed.{Failed}
 use Rattle.file_model.specs.Histories.{History, Says}
 use Rattle.session_loop.proofs.Turns.{say_passed, say_arrived, first_units}

@@ -1,7 +1,7 @@
 use Rattle.std.proofs.Common.{◌≡◌, inr, ◌++◌, ◌+◌, ◌≤◌, length-append, List, ℕ, true, false, [], length, take, ap, sym, ◌∙◌, subst, refl, Ok, Err, arith, ◌<◌, ◌&&◌, ◌==◌, nat_lt}
 use Rattle.std.proofs.lemmas.List.{append-nil}
-use Rattle.imap_grammar.specs.Stream.{unfinished}
-use Rattle.imap_grammar.specs.Taken.{HasTaken}
+use Rattle.command_lines.specs.Stream.{unfinished}
+use Rattle.command_lines.specs.Taken.{HasTaken}
 use Rattle.file_model.specs.Arrived.{Begins, Arrived, gives_end}
 use Rattle.session_loop.specs.Machine.{Protocol, commands_in, is_over}
 use Rattle.session_loop.specs.Instants.{HasServed, most_heard}

@@ -1,10 +1,10 @@
 use Rattle.std.proofs.Common.{◌-◌, refl, ap, ◌∙◌, sym, take, length}
-use Rattle.imap_grammar.specs.Stream.{unfinished}
-use Rattle.imap_grammar.specs.Taken.{ends_in_cr}
-use Rattle.imap_grammar.proofs.Runs.{ends_with}
-use Rattle.imap_grammar.proofs.Kept.{kept_with}
-use Rattle.imap_grammar.proofs.Pieces.{on_ok}
-use Rattle.imap_grammar.proofs.feed.Feed.take_run.Goals as goal
+use Rattle.command_lines.specs.Stream.{unfinished}
+use Rattle.command_lines.specs.Taken.{ends_in_cr}
+use Rattle.command_lines.proofs.Runs.{ends_with}
+use Rattle.command_lines.proofs.Kept.{kept_with}
+use Rattle.command_lines.proofs.Pieces.{on_ok}
+use Rattle.command_lines.proofs.feed.Feed.take_run.Goals as goal
 
 pub returns : goal.returns
 returns c stream taken in_line =

@@ -1,9 +1,9 @@
 -- What the crates above use of units.
 use Rattle.std.proofs.Common.{ℕ, Bool, true, false, List, [], ◌∷◌, ◌++◌, ◌≡◌, ◌==◌, ◌&&◌, ◌⊎◌, ◌↔◌, inl, inr, append_assoc, refl, sym, ◌∙◌, ap, map, take, flat_map}
 use Rattle.std.proofs.lemmas.List.{append-nil}
-use Rattle.imap_grammar.specs.Stream.{lines_of, units_of, unfinished}
-use Rattle.imap_grammar.specs.Taken.{ends_in_cr}
-use Rattle.imap_grammar.proofs.Bytes.{ends_line, line_ended, rest_after, units_push, rest_push, ends_pushed, both_true, is_number, with_crlf, lines_joined}
+use Rattle.command_lines.specs.Stream.{lines_of, units_of, unfinished}
+use Rattle.command_lines.specs.Taken.{ends_in_cr}
+use Rattle.command_lines.proofs.Bytes.{ends_line, line_ended, rest_after, units_push, rest_push, ends_pushed, both_true, is_number, with_crlf, lines_joined}
 
 -- a stream of no bytes has no units
 pub no_units : units_of [] ≡ []

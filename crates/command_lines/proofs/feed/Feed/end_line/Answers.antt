@@ -1,6 +1,6 @@
 use Rattle.std.proofs.Common.{◌-◌, ◌∷◌, ◌++◌, [], refl, ap, ◌∙◌, take}
-use Rattle.imap_grammar.proofs.Kept.{ended_taken}
-use Rattle.imap_grammar.proofs.feed.Feed.end_line.Goals as goal
+use Rattle.command_lines.proofs.Kept.{ended_taken}
+use Rattle.command_lines.proofs.feed.Feed.end_line.Goals as goal
 
 pub returns-clause-taken : goal.returns-clause-taken
 returns-clause-taken c stream taken cr =

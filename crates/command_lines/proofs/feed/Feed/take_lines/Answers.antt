@@ -1,8 +1,8 @@
 use Rattle.std.proofs.Common.{List, ℕ, ◌≡◌, refl, subst, sym, arith, ◌-◌, ◌+◌, take, drop, length}
 use Rattle.std.proofs.lemmas.Grind.{common_steps}
-use Rattle.imap_grammar.specs.Taken.{AddsFirst}
-use Rattle.imap_grammar.proofs.Pieces.{line_feed_reached, all_reached, part_added, on_err}
-use Rattle.imap_grammar.proofs.feed.Feed.take_lines.Goals as goal
+use Rattle.command_lines.specs.Taken.{AddsFirst}
+use Rattle.command_lines.proofs.Pieces.{line_feed_reached, all_reached, part_added, on_err}
+use Rattle.command_lines.proofs.feed.Feed.take_lines.Goals as goal
 
 behind : (bytes : List ℕ) (n : ℕ) → take (length bytes - n) (drop n bytes) ≡ drop n bytes
 behind bytes n = grind (arith, common_steps)

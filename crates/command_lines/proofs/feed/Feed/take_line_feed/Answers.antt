@@ -1,7 +1,7 @@
 use Rattle.std.proofs.Common.{◌&&◌, true, ◌∙◌, sym, ap}
-use Rattle.imap_grammar.proofs.Runs.{byte_in_line}
-use Rattle.imap_grammar.proofs.Pieces.{byte_taken}
-use Rattle.imap_grammar.proofs.feed.Feed.take_line_feed.Goals as goal
+use Rattle.command_lines.proofs.Runs.{byte_in_line}
+use Rattle.command_lines.proofs.Pieces.{byte_taken}
+use Rattle.command_lines.proofs.feed.Feed.take_line_feed.Goals as goal
 
 pub returns-clause-taken : goal.returns-clause-taken
 returns-clause-taken c stream taken =

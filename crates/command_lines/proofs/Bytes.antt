@@ -5,8 +5,8 @@ use Rattle.std.proofs.lemmas.List.{map-append}
 use Rattle.std.proofs.lemmas.List.Concat.{flat_map-cons}
 use Rattle.std.proofs.lemmas.Bool.Decides.{nat_tests}
 use Rattle.std.proofs.lemmas.List.Sums.{sum_by-cons}
-use Rattle.imap_grammar.specs.Stream.{is_crlf, in_first, lines_of, unfinished, units_of}
-use Rattle.imap_grammar.specs.Taken.{ends_in_cr}
+use Rattle.command_lines.specs.Stream.{is_crlf, in_first, lines_of, unfinished, units_of}
+use Rattle.command_lines.specs.Taken.{ends_in_cr}
 
 -- `unfinished` by recursion on the bytes, as `lines_of` is: a byte belongs to it where no line is whole behind the byte
 abbrev rest_from : ℕ → List (List ℕ) → List ℕ → List ℕ

@@ -1,7 +1,7 @@
 // A stream that comes in pieces.
 ghost use Rattle.std.specs.Prelude.{◌≡◌, ◌↔◌, ◌-◌, IfOk, flat_map, List, ℕ, [], ◌∷◌, ◌++◌, OnOk, OnErr, IsErr, IsTrue, true, length, take};
-ghost use Rattle.imap_grammar.specs.Stream.{units_of, unfinished};
-ghost use Rattle.imap_grammar.specs.Taken.{HasTaken, Adds, AddsFirst, IsSpent};
+ghost use Rattle.command_lines.specs.Stream.{units_of, unfinished};
+ghost use Rattle.command_lines.specs.Taken.{HasTaken, Adds, AddsFirst, IsSpent};
 
 use crate::Line;
 use memchr::memchr;

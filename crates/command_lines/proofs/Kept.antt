@@ -1,10 +1,10 @@
 -- What a feed keeps of a line.
 use Rattle.std.proofs.Common.{ℕ, zero, suc, ◌+◌, ◌-◌, ◌≢◌, Bool, true, false, IsTrue, List, [], ◌∷◌, ◌++◌, ◌≡◌, ◌==◌, ◌&&◌, arith, add-one, refl, sym, ◌∙◌, ap, take, map, length}
 use Rattle.std.proofs.lemmas.Grind.{common_steps}
-use Rattle.imap_grammar.specs.Stream.{unfinished, units_of}
-use Rattle.imap_grammar.specs.Taken.{ends_in_cr, HasTaken, Adds}
-use Rattle.imap_grammar.specs.declared.feed.Feed.{Feed}
-use Rattle.imap_grammar.proofs.Bytes.{without_last, ends_line, line_ended, rest_after, rest_push, units_push}
+use Rattle.command_lines.specs.Stream.{unfinished, units_of}
+use Rattle.command_lines.specs.Taken.{ends_in_cr, HasTaken, Adds}
+use Rattle.command_lines.specs.declared.feed.Feed.{Feed}
+use Rattle.command_lines.proofs.Bytes.{without_last, ends_line, line_ended, rest_after, rest_push, units_push}
 
 kept_front : (n : ℕ) (rest run : List ℕ) → take n rest ++ take (n - length (take n rest)) run ≡ take n (rest ++ run)
 kept_front zero rest run = refl

@@ -1,5 +1,5 @@
-use Rattle.imap_grammar.proofs.Streams.{units_first}
-use Rattle.imap_grammar.proofs.feed.Feed.take.Goals as goal
+use Rattle.command_lines.proofs.Streams.{units_first}
+use Rattle.command_lines.proofs.feed.Feed.take.Goals as goal
 
 pub returns-then-self-clause-first : goal.returns-then-self-clause-first
 returns-then-self-clause-first c stream = units_first c.args.piece.now stream

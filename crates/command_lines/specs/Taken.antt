@@ -1,7 +1,7 @@
 -- What a feed stands for.
 use Rattle.std.specs.Prelude.{ℕ, Bool, List, [], ◌∷◌, ◌++◌, ◌==◌, ◌≡◌, true, false, take}
-use Rattle.imap_grammar.specs.Stream.{units_of, unfinished}
-use Rattle.imap_grammar.specs.declared.feed.Feed.{Feed}
+use Rattle.command_lines.specs.Stream.{units_of, unfinished}
+use Rattle.command_lines.specs.declared.feed.Feed.{Feed}
 
 -- whether the last byte is a CR
 abbrev pub ends_in_cr : List ℕ → Bool

@@ -1,6 +1,6 @@
 -- The definitions on small streams, computed.
 use Rattle.std.specs.Prelude.{◌≡◌, ◌∷◌, [], codes, refl}
-use Rattle.imap_grammar.specs.Stream.{lines_of, unfinished}
+use Rattle.command_lines.specs.Stream.{lines_of, unfinished}
 
 two_lines : lines_of (codes "a NOOP\r\n\r\nb LOG") ≡ codes "a NOOP" ∷ [] ∷ []
 two_lines = refl

@@ -1,6 +1,6 @@
-use Rattle.imap_grammar.specs.Stream.{unfinished}
-use Rattle.imap_grammar.proofs.Kept.{none_left}
-use Rattle.imap_grammar.proofs.feed.Feed.at_rest.Goals as goal
+use Rattle.command_lines.specs.Stream.{unfinished}
+use Rattle.command_lines.proofs.Kept.{none_left}
+use Rattle.command_lines.proofs.feed.Feed.at_rest.Goals as goal
 
 pub returns : goal.returns
 returns c stream taken =

@@ -2,12 +2,12 @@
 use Rattle.std.proofs.Common.{ℕ, ◌+◌, List, [], ◌∷◌, ◌++◌, ◌≡◌, None, Some, Result, Ok, Err, OnOk, OnErr, arith, append_assoc, refl, sym, ◌∙◌, ap, subst, take, drop}
 use Rattle.std.proofs.lemmas.List.{append-nil}
 use Rattle.memchr.specs.Find.{IsFirstByte, is_byte}
-use Rattle.imap_grammar.specs.Stream.{unfinished, units_of}
-use Rattle.imap_grammar.specs.Taken.{HasTaken, Adds, AddsFirst}
+use Rattle.command_lines.specs.Stream.{unfinished, units_of}
+use Rattle.command_lines.specs.Taken.{HasTaken, Adds, AddsFirst}
 use Rattle.std.specs.declared.alloc.AllocError.{AllocError}
-use Rattle.imap_grammar.specs.declared.feed.Feed.{Feed}
-use Rattle.imap_grammar.proofs.Streams.{units_first}
-use Rattle.imap_grammar.proofs.Runs.{InLine, NoLineFeed, none_before, nowhere, parts_at, run_in_line}
+use Rattle.command_lines.specs.declared.feed.Feed.{Feed}
+use Rattle.command_lines.proofs.Streams.{units_first}
+use Rattle.command_lines.proofs.Runs.{InLine, NoLineFeed, none_before, nowhere, parts_at, run_in_line}
 
 -- a feed has taken the front of a piece, and `rest` is behind it
 pub record Reached (start feed : Feed) (piece rest : List ℕ) (old units : List (List ℕ)) : Type 0 where

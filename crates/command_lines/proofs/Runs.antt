@@ -4,9 +4,9 @@ use Rattle.std.proofs.lemmas.List.{append-nil, take_more, take-append-drop}
 use Rattle.std.proofs.lemmas.Option.{slice_get_within, get_or_from_slice_get}
 use Rattle.std.proofs.Math.Seq.{drop-cons}
 use Rattle.std.proofs.lemmas.Grind.{common_steps}
-use Rattle.imap_grammar.specs.Stream.{unfinished, units_of}
-use Rattle.imap_grammar.specs.Taken.{ends_in_cr}
-use Rattle.imap_grammar.proofs.Bytes.{ends_line, rest_after, rest_push, line_ended, units_push, ends_pushed, is_number}
+use Rattle.command_lines.specs.Stream.{unfinished, units_of}
+use Rattle.command_lines.specs.Taken.{ends_in_cr}
+use Rattle.command_lines.proofs.Bytes.{ends_line, rest_after, rest_push, line_ended, units_push, ends_pushed, is_number}
 
 -- all bytes of the run belong to the line that the stream left unfinished
 pub record InLine (stream run : List ℕ) : Type 0 where
