@@ -1,0 +1,5 @@
+pub mod Atoms
+pub mod Digits
+pub mod Exits
+pub mod Lists
+pub mod PartSteps

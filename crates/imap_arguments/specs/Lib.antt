@@ -1,0 +1,12 @@
+pub mod Dates
+pub mod Flags
+pub mod InPlace
+pub mod Items
+pub mod Numbers
+pub mod Readings
+pub mod Reasons
+pub mod Sections
+pub mod Sets
+pub mod Strings
+pub mod Tags
+pub mod Tokens
