@@ -1,1 +1,2 @@
+pub mod EitherCalls
 pub mod ListRuns

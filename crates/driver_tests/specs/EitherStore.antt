@@ -6,8 +6,9 @@ use Rattle.store_trait.specs.declared.store.Info.{Info}
 use Rattle.store_trait.specs.Laws.{IsView, IsGrammar, CanWrite}
 use Rattle.store_trait.specs.Views.{View, Grammar}
 use Rattle.driver_tests.specs.declared.either_store.EitherStore.{EitherStore}
-use Rattle.driver_tests.specs.declared.either_store.EitherStore.TheVariants.{Broken, Spoilt}
-use Rattle.driver_tests.specs.BrokenStore.{broken_view, no_grammar, is_grammar}
+use Rattle.driver_tests.specs.declared.either_store.EitherStore.TheVariants.{Plain, Spoilt}
+use Rattle.list_store.specs.Laws.{list_is_view, list_is_grammar, list_can_write}
+use Rattle.list_store.specs.ListView.{list_view, list_grammar}
 
 -- a broken store of another driver
 abbrev pub spoilt_view : Info → View
@@ -42,20 +43,16 @@ spoilt_can_write info image before change stands written can names some due = ab
 
 -- the store that it is
 abbrev pub either_view : EitherStore → View
-either_view (Broken store) = broken_view store.info
+either_view (Plain store) = list_view store
 either_view (Spoilt store) = spoilt_view store.info
 
 -- the grammar of the driver
 abbrev pub either_grammar : Driver → List ℕ → Grammar
 either_grammar Mtx path = spoilt_grammar Mtx path
-either_grammar driver path = no_grammar driver path
+either_grammar driver path = list_grammar driver path
 
 pub either_is_view : (store : EitherStore) → IsView either_grammar (either_view store)
-either_is_view (Broken store) = record {
-  summarized = λ image stands. absurd stands;
-  stays = λ one other agree stands. absurd stands;
-  written = λ image stands. absurd stands;
-}
+either_is_view (Plain store) = let is = list_is_view store in record { summarized = is.summarized; stays = is.stays; written = is.written }
 either_is_view (Spoilt store) = record {
   summarized = λ image stands. absurd stands;
   stays = λ one other agree stands. absurd stands;
@@ -64,8 +61,8 @@ either_is_view (Spoilt store) = record {
 
 pub either_is_grammar : (driver : Driver) (path : List ℕ) → IsGrammar driver path (either_grammar driver path)
 either_is_grammar Mtx path = spoilt_is_grammar Mtx path
-either_is_grammar driver path = is_grammar driver path
+either_is_grammar driver path = list_is_grammar driver path
 
 pub either_can_write : (store : EitherStore) → CanWrite either_grammar (either_view store)
-either_can_write (Broken store) image before change stands written can names some due = absurd stands
+either_can_write (Plain store) image before change stands written can names some due = list_can_write store image before change stands written can names some due
 either_can_write (Spoilt store) image before change stands written can names some due = absurd stands

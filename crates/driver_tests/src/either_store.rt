@@ -1,14 +1,14 @@
-//! Two stores as one enum: the shape of the choice of a driver.
+//! Two stores as one enum, the plain store and one that refuses every call: the shape of the choice of a driver.
 ghost use Rattle.std.specs.Prelude.{◌≡◌};
 ghost use Rattle.driver_tests.specs.EitherStore.{spoilt_view, spoilt_grammar, spoilt_is_view, spoilt_is_grammar, spoilt_can_write, either_view, either_grammar, either_is_view, either_is_grammar, either_can_write};
 
-use crate::broken_store::BrokenStore;
 use file_model::Files;
+use list_store::ListStore;
 use mail_fields::Keyword;
 use mail_types::{Driver, FlagChange, NewMessage};
 use store_trait::{Info, Store, StoreFault};
 
-/// Another store that refuses every call, of another driver and with another grammar.
+/// A store that refuses every call, of another driver and with another grammar.
 #[derive(Drop)]
 pub struct SpoiltStore {
     pub info: Info,
@@ -85,7 +85,7 @@ impl<F: Files> Store<F> for SpoiltStore {
 /// A store of one of two drivers.
 #[derive(Drop)]
 pub enum EitherStore {
-    Broken(BrokenStore),
+    Plain(ListStore),
     Spoilt(SpoiltStore),
 }
 
@@ -96,42 +96,42 @@ impl<F: Files> Store<F> for EitherStore {
 
     fn driver(&self) -> Driver {
         match self {
-            EitherStore::Broken(store) => Store::<F>::driver(store),
+            EitherStore::Plain(store) => Store::<F>::driver(store),
             EitherStore::Spoilt(store) => Store::<F>::driver(store),
         }
     }
 
     fn validity(&self) -> u32 {
         match self {
-            EitherStore::Broken(store) => Store::<F>::validity(store),
+            EitherStore::Plain(store) => Store::<F>::validity(store),
             EitherStore::Spoilt(store) => Store::<F>::validity(store),
         }
     }
 
     fn last(&self) -> u32 {
         match self {
-            EitherStore::Broken(store) => Store::<F>::last(store),
+            EitherStore::Plain(store) => Store::<F>::last(store),
             EitherStore::Spoilt(store) => Store::<F>::last(store),
         }
     }
 
     fn words(&self) -> &[Keyword] {
         match self {
-            EitherStore::Broken(store) => Store::<F>::words(store),
+            EitherStore::Plain(store) => Store::<F>::words(store),
             EitherStore::Spoilt(store) => Store::<F>::words(store),
         }
     }
 
     fn count(&self) -> usize {
         match self {
-            EitherStore::Broken(store) => Store::<F>::count(store),
+            EitherStore::Plain(store) => Store::<F>::count(store),
             EitherStore::Spoilt(store) => Store::<F>::count(store),
         }
     }
 
     fn info(&self, place: usize) -> Info {
         match self {
-            EitherStore::Broken(store) => Store::<F>::info(store, place),
+            EitherStore::Plain(store) => Store::<F>::info(store, place),
             EitherStore::Spoilt(store) => Store::<F>::info(store, place),
         }
     }
@@ -144,7 +144,7 @@ impl<F: Files> Store<F> for EitherStore {
         buf: &mut [u8],
     ) -> Result<usize, StoreFault> {
         match self {
-            EitherStore::Broken(store) => store.text(files, place, from, buf),
+            EitherStore::Plain(store) => store.text(files, place, from, buf),
             EitherStore::Spoilt(store) => store.text(files, place, from, buf),
         }
     }
@@ -156,7 +156,7 @@ impl<F: Files> Store<F> for EitherStore {
         words: &[Keyword],
     ) -> Result<(), StoreFault> {
         match self {
-            EitherStore::Broken(store) => store.append(files, new, words),
+            EitherStore::Plain(store) => store.append(files, new, words),
             EitherStore::Spoilt(store) => store.append(files, new, words),
         }
     }
@@ -168,14 +168,14 @@ impl<F: Files> Store<F> for EitherStore {
         words: &[Keyword],
     ) -> Result<(), StoreFault> {
         match self {
-            EitherStore::Broken(store) => store.set_flags(files, changes, words),
+            EitherStore::Plain(store) => store.set_flags(files, changes, words),
             EitherStore::Spoilt(store) => store.set_flags(files, changes, words),
         }
     }
 
     fn expunge(&mut self, files: &mut F, places: &[usize]) -> Result<(), StoreFault> {
         match self {
-            EitherStore::Broken(store) => store.expunge(files, places),
+            EitherStore::Plain(store) => store.expunge(files, places),
             EitherStore::Spoilt(store) => store.expunge(files, places),
         }
     }

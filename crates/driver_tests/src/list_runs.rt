@@ -11,11 +11,11 @@ ghost use Rattle.mail_types.specs.Lists.{places_of};
 ghost use Rattle.mail_types.specs.Mailboxes.{has_no_nul};
 ghost use Rattle.mem_host.specs.State.{history_of};
 ghost use Rattle.list_store.specs.ListView.{list_view};
-ghost use Rattle.store_trait.specs.Changes.{CanChangeStore};
 ghost use Rattle.store_trait.specs.Meaning.{IsFreeFor};
 ghost use Rattle.store_trait.specs.Promises.{CanAsk};
 ghost use Rattle.store_trait.specs.Runs.{CanRun};
 
+use crate::either_store::EitherStore;
 use list_store::ListStore;
 use mail_fields::{Bytes, Keyword, Keywords, Places, Stamp};
 use mail_types::{FlagChange, FlagChanges, Flags, NewMessage, NewMessages};
@@ -247,6 +247,24 @@ fn carry(alloc: Global, host: &mut MemHost, changes: &[Change]) -> Carried
     }
 }
 
+// The same run over the store as one of two.
+fn carry_as_one_of_two(
+    alloc: Global,
+    host: &mut MemHost,
+    changes: &[Change],
+) -> Result<usize, (usize, StoreFault)>
+    requires free { Now (history_of host.old) (λ w. IsFreeFor Mbx (codes "/mail/list") (seen w.disk)) }
+    requires can { CanRun (keeps_of Mbx) [] 0 changes.now }
+{
+    match ListStore::create(alloc, host, "/mail/list", 1) {
+        Ok(store) => {
+            let mut either = EitherStore::Plain(store);
+            run(&mut either, host, changes)
+        }
+        Err(fault) => Err((0, fault)),
+    }
+}
+
 // The file is that of a step.
 fn has_step(alloc: Global, host: &MemHost, step: usize) -> Result<bool, AllocError> {
     let Some((numbers, names, messages)) = STEPS.get(step) else {
@@ -266,6 +284,15 @@ fn a_run_carries_each_change(rt: HostRuntime) -> Result<(), Fail> {
     assert!(rt; carried.then == Ok(()));
     assert!(rt; has_step(rt.alloc(), &host, 4)?);
     assert_eq!(rt; host.calls(), 30);
+    Ok(())
+}
+
+#[test]
+fn a_run_carries_each_change_over_one_of_two(rt: HostRuntime) -> Result<(), Fail> {
+    let mut host = host_with_room(rt.alloc(), &[])?;
+    let changes = four_changes(rt.alloc())?;
+    assert!(rt; carry_as_one_of_two(rt.alloc(), &mut host, changes.as_slice()) == Ok(4));
+    assert!(rt; has_step(rt.alloc(), &host, 4)?);
     Ok(())
 }
 

@@ -40,17 +40,13 @@ fn a_run_over_a_broken_store_does_nothing(rt: HostRuntime) -> Result<(), Fail> {
 }
 
 #[test]
-fn each_store_answers_as_itself(rt: HostRuntime) -> Result<(), Fail> {
+fn one_of_two_stores_answers_as_itself(rt: HostRuntime) -> Result<(), Fail> {
     let mut host = MemHost::new(rt.alloc(), b"", &[], &[])?;
-    for (mut store, driver) in [
-        (EitherStore::Broken(BrokenStore { info: INFO }), Driver::Mbx),
-        (EitherStore::Spoilt(SpoiltStore { info: INFO }), Driver::Mtx),
-    ] {
-        let mut places = Vec::new(rt.alloc());
-        places.push(0)?;
-        let changes = [Change::Expunge(Places::of(places))];
-        assert!(rt; run(&mut store, &mut host, &changes) == Err((0, StoreFault::Broken)));
-        assert!(rt; Store::<MemHost>::driver(&store) == driver);
-    }
+    let mut store = EitherStore::Spoilt(SpoiltStore { info: INFO });
+    let mut places = Vec::new(rt.alloc());
+    places.push(0)?;
+    let changes = [Change::Expunge(Places::of(places))];
+    assert!(rt; run(&mut store, &mut host, &changes) == Err((0, StoreFault::Broken)));
+    assert!(rt; Store::<MemHost>::driver(&store) == Driver::Mtx);
     Ok(())
 }
