@@ -3,8 +3,12 @@
 
 pub mod acknowledged;
 #[cfg(test)]
+mod crashes;
+#[cfg(test)]
 mod memory_host;
 #[cfg(test)]
 mod real_files;
 #[cfg(test)]
 mod replies;
+#[cfg(test)]
+mod steps;

@@ -13,7 +13,7 @@ use mem_host::MemHost;
 use std::alloc::{AllocError, Global};
 use std::test::Fail;
 
-fn with_old(alloc: Global, failing: u64) -> Result<MemHost, AllocError>
+pub(crate) fn with_old(alloc: Global, failing: u64) -> Result<MemHost, AllocError>
     ensures room { IfOk result (λ host. Now (history_of host) (λ w. is_directory (seen w.disk) (codes "/mail") ≡ true)) }
     ensures target { IfOk result (λ host. Now (history_of host) (λ w. IsTarget (seen w.disk) (codes "/mail/inbox"))) }
     ensures durable { IfOk result (λ host. Now (history_of host) (λ w. NonePending w.disk)) }

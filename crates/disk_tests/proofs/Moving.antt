@@ -1,0 +1,29 @@
+-- What a directory needs to be moved.
+use Rattle.std.proofs.Common.{◌≡◌, true, false, inr, refl, sym, ◌∙◌, ap, codes}
+use Rattle.file_model.specs.declared.files.Kind.{Kind}
+use Rattle.file_model.specs.declared.files.Kind.TheVariants.{Nothing, File, Dir}
+use Rattle.file_model.specs.Paths.{is_inside, split_path}
+use Rattle.file_model.specs.Reserved.{is_reserved_name}
+use Rattle.file_model.specs.Images.{Image, Node, nothing, file, directory, node_at, is_directory, directory_test}
+use Rattle.file_model.specs.Kinds.{kind_of, CanMove}
+
+directory_is : (node : Node) → Dir ≡ kind_of node → directory_test node ≡ true
+directory_is nothing is = absurd (cc)
+directory_is (file bytes) is = absurd (cc)
+directory_is directory is = refl
+
+nothing_is : (node : Node) → Nothing ≡ kind_of node → node ≡ nothing
+nothing_is nothing is = refl
+nothing_is (file bytes) is = absurd (cc)
+nothing_is directory is = absurd (cc)
+
+pub can_move : (image : Image) → Dir ≡ kind_of (node_at image (codes "/m")) → Dir ≡ kind_of (node_at image (codes "/m/a")) → Nothing ≡ kind_of (node_at image (codes "/m/b")) → CanMove image (codes "/m/a") (codes "/m/b")
+unfolding is_inside split_path is_reserved_name
+can_move image room there free = inr (record {
+  is_there = directory_is (node_at image (codes "/m/a")) there;
+  target = record {
+    free = record { nothing_there = nothing_is (node_at image (codes "/m/b")) free; room = directory_is (node_at image (codes "/m")) room; below = refl };
+    name = refl;
+  };
+  outside = refl;
+})
