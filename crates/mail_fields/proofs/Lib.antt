@@ -7,4 +7,5 @@ pub mod Digits
 pub mod Examples
 pub mod FromDateReads
 pub mod ReadBack
+pub mod Spaces
 pub mod Texts

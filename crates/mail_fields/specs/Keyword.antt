@@ -12,6 +12,10 @@ pub record IsKeyword (name : List ℕ) : Type 0 where
   pub few : length name ≤ 64
   pub atoms : list_all is_atom name ≡ true
 
+-- the same as a test
+abbrev pub is_keyword : List ℕ → Bool
+is_keyword name = nat_le 1 (length name) && (nat_le (length name) 64 && list_all is_atom name)
+
 -- the letter in lower case
 abbrev pub lower : ℕ → ℕ
 lower byte = if nat_le 65 byte && nat_le byte 90 then byte + 32 else byte

@@ -6,6 +6,7 @@ pub mod FromDate
 pub mod ImapDate
 pub mod Keyword
 pub mod MixDate
+pub mod Names
 pub mod Numbers
 pub mod SearchDate
 pub mod Stamps

@@ -12,7 +12,8 @@ use Rattle.mail_types.specs.declared.message.NewMessage.{NewMessage}
 use Rattle.mail_types.specs.declared.message.Record.{Record}
 use Rattle.mail_types.specs.declared.uids.Numbering.{Numbering}
 use Rattle.mail_types.specs.Lists.{undropped, drop_records, changed_records, change_flags, cleared, added_records, add_messages}
-use Rattle.mail_types.specs.Mailboxes.{uids_rise, has_no_nul, are_distinct, greatest_number, IsMailbox}
+use Rattle.mail_fields.specs.Names.{are_distinct}
+use Rattle.mail_types.specs.Mailboxes.{uids_rise, has_no_nul, greatest_number, IsMailbox}
 use Rattle.mail_types.specs.Opening.{greatest, missing, rise_then_none, given_uids, numbers_from, with_uids, uids_of, highest, has_room, uids_last, opened_mailbox, IsOpenable, greatest_given}
 use Rattle.mail_types.proofs.CleanTexts.{form_is_clean}
 use Rattle.mail_types.proofs.ChangingFlags.{changed_uids, changed_texts}

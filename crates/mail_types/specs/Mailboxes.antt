@@ -1,14 +1,9 @@
 -- What makes a mailbox (RFC 3501, sections 2.3.1.1 and 2.3.2).
 use Rattle.std.specs.Prelude.{ℕ, Bool, true, List, [], ◌∷◌, ◌≤◌, ◌≡◌, ◌≢◌, ◌==◌, ◌&&◌, not, nat_lt, nat_le, length}
-use Rattle.std.specs.List.{list_any, list_all}
-use Rattle.mail_fields.specs.Keyword.{same_keyword}
+use Rattle.std.specs.List.{list_all}
+use Rattle.mail_fields.specs.Names.{are_distinct}
 use Rattle.mail_types.specs.declared.mailbox.Mailbox.{Mailbox}
 use Rattle.mail_types.specs.declared.message.Record.{Record}
-
--- no two of these names are the same
-abbrev pub are_distinct : List (List ℕ) → Bool
-are_distinct [] = true
-are_distinct (name ∷ rest) = not (list_any (same_keyword name) rest) && are_distinct rest
 
 -- UIDs that rise strictly above one
 abbrev pub uids_rise : ℕ → List Record → Bool

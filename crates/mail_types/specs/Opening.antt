@@ -5,7 +5,8 @@ use Rattle.mail_types.specs.declared.contents.StoreContents.{StoreContents}
 use Rattle.mail_types.specs.declared.mailbox.Mailbox.{Mailbox}
 use Rattle.mail_types.specs.declared.message.Record.{Record}
 use Rattle.mail_types.specs.declared.uids.Numbering.{Numbering}
-use Rattle.mail_types.specs.Mailboxes.{are_distinct, has_no_nul, greatest_number}
+use Rattle.mail_fields.specs.Names.{are_distinct}
+use Rattle.mail_types.specs.Mailboxes.{has_no_nul, greatest_number}
 
 -- ---- UIDs as files have them, 0 for none
 

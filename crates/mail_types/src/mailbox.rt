@@ -2,7 +2,8 @@
 ghost use Rattle.std.specs.Prelude.{◌≡◌, ◌≤◌, ◌↔◌, true, length, nat_le, IfOk, IfSome, IfNone, IsTrue};
 ghost use Rattle.std.specs.List.{list_all, list_any};
 ghost use Rattle.mail_fields.specs.Keyword.{same_keyword};
-ghost use Rattle.mail_types.specs.Mailboxes.{are_distinct, uids_rise, has_no_nul, IsMailbox};
+ghost use Rattle.mail_fields.specs.Names.{are_distinct};
+ghost use Rattle.mail_types.specs.Mailboxes.{uids_rise, has_no_nul, IsMailbox};
 
 use crate::{Record, Records};
 use mail_fields::{Keyword, Keywords};

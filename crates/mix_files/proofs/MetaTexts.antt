@@ -11,11 +11,12 @@ use Rattle.std.proofs.lemmas.List.Sums.{AllPass-from_list_all}
 use Rattle.mix_files.proofs.MetaLines.{no-line}
 use Rattle.std.proofs.lemmas.List.Splits.{slice_split_at, slice_split_none}
 use Rattle.mail_fields.specs.Numbers.{digits_in}
-use Rattle.mail_fields.specs.Keyword.{is_atom}
+use Rattle.mail_fields.specs.Keyword.{is_atom, is_keyword}
 use Rattle.mail_fields.specs.Texts.{written_at}
 use Rattle.mail_fields.proofs.Digits.{number-digits}
 use Rattle.mix_files.specs.CrlfLines.{crlf_lines}
-use Rattle.mix_files.specs.Names.{is_space, is_keyword, all_differ, may_be_names, split_names, names_of, names_text}
+use Rattle.mail_fields.specs.Names.{is_space, are_distinct}
+use Rattle.mix_files.specs.Names.{may_be_names, split_names, names_of, names_text}
 use Rattle.mix_files.specs.declared.meta.Meta.{Meta}
 use Rattle.mix_files.specs.Metadata.{line_parts, is_known, is_further_part, is_further, kept_lines, number_of_line, names_of_line, meta_of_lines, meta_of, number_line, names_line, meta_text}
 
@@ -125,7 +126,7 @@ split-again (first ∷ names) all =
     ne_eqb (length text) 0 (λ is. omega (arith, (keyword-atoms first parts.0).1, length-append first (flat_map (λ each. 32 ∷ each) names))) in
     ap (λ test. cond test [] (slice_split is_space text)) some ∙ names-split first names parts.0 parts.1
 
-names-again : (names : List (List ℕ)) → list_all is_keyword names ≡ true → length names ≤ 30 → all_differ names ≡ true → names_of (names_text names) ≡ Some names
+names-again : (names : List (List ℕ)) → list_all is_keyword names ≡ true → length names ≤ 30 → are_distinct names ≡ true → names_of (names_text names) ≡ Some names
 unfolding names_of
 names-again names all few differ =
     ap (λ items. cond (may_be_names items) (Some items) None) (split-again names all)
@@ -155,7 +156,7 @@ number-again : (letter number : ℕ) → (letter == letter) ≡ true → number 
 unfolding number_of_line number_line
 number-again letter number same small = rw (parts-of letter (digits_in 16 8 number), same) (number-digits 16 8 number (omega arith) (omega arith) small)
 
-names_line-again : (names : List (List ℕ)) → list_all is_keyword names ≡ true → length names ≤ 30 → all_differ names ≡ true → names_of_line (names_line names) ≡ Some names
+names_line-again : (names : List (List ℕ)) → list_all is_keyword names ≡ true → length names ≤ 30 → are_distinct names ≡ true → names_of_line (names_line names) ≡ Some names
 unfolding names_of_line names_line
 names_line-again names all few differ = rw (parts-of 75 (names_text names)) (names-again names all few differ)
 
@@ -179,7 +180,7 @@ lines-kept meta all =
 
 -- so the metadata is read again
 pub meta-again : (meta : Meta) (text : List ℕ) → text ≡ meta_text meta → meta.sequence < 2 ^ 32 → meta.validity < 2 ^ 32 → meta.last < 2 ^ 32 → meta.file < 2 ^ 32
-    → meta.validity ≢ 0 → list_all is_keyword meta.words ≡ true → length meta.words ≤ 30 → all_differ meta.words ≡ true → meta_of text ≡ Some meta
+    → meta.validity ≢ 0 → list_all is_keyword meta.words ≡ true → length meta.words ≤ 30 → are_distinct meta.words ≡ true → meta_of text ≡ Some meta
 unfolding meta_of_lines
 meta-again meta text is sequence validity last file some all few differ =
     ap (λ t. meta_of_lines (kept_lines t)) is ∙ ap meta_of_lines (lines-kept meta all)

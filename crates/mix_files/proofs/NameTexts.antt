@@ -9,8 +9,9 @@ use Rattle.std.proofs.lemmas.List.{length-drop, take_all}
 use Rattle.std.proofs.lemmas.List.Folds.{list_all-append, list_any-append}
 use Rattle.std.proofs.lemmas.List.Splits.{slice_split_first, slice_split_none}
 use Rattle.std.proofs.lemmas.List.Sums.{fails_before_first}
-use Rattle.mail_fields.specs.Keyword.{IsKeyword, same_keyword}
-use Rattle.mix_files.specs.Names.{is_space, is_keyword, all_differ, may_be_names, split_names, names_of}
+use Rattle.mail_fields.specs.Keyword.{IsKeyword, same_keyword, is_keyword}
+use Rattle.mail_fields.specs.Names.{is_space, are_distinct}
+use Rattle.mix_files.specs.Names.{may_be_names, split_names, names_of}
 
 both : (one other : Bool) → (one && other) ≡ true → (one ≡ true) × (other ≡ true)
 both true other is = (refl, is)
@@ -46,17 +47,17 @@ shuffled false true false d = refl
 shuffled false false true d = refl
 shuffled false false false d = refl
 
-differ-more : (read : List (List ℕ)) (name : List ℕ) → all_differ (read ++ name ∷ []) ≡ (all_differ read && not (list_any (λ each. same_keyword each name) read))
+differ-more : (read : List (List ℕ)) (name : List ℕ) → are_distinct (read ++ name ∷ []) ≡ (are_distinct read && not (list_any (λ each. same_keyword each name) read))
 differ-more [] name = refl
 differ-more (first ∷ read) name =
-    ap (λ taken. not taken && all_differ (read ++ name ∷ [])) (list_any-append (same_keyword first) read (name ∷ []))
+    ap (λ taken. not taken && are_distinct (read ++ name ∷ [])) (list_any-append (same_keyword first) read (name ∷ []))
     ∙ ap (λ later. not (list_any (same_keyword first) read || (same_keyword first name || false)) && later) (differ-more read name)
-    ∙ shuffled (list_any (same_keyword first) read) (same_keyword first name) (all_differ read) (list_any (λ each. same_keyword each name) read)
+    ∙ shuffled (list_any (same_keyword first) read) (same_keyword first name) (are_distinct read) (list_any (λ each. same_keyword each name) read)
 
-differ-front : (read more : List (List ℕ)) → all_differ (read ++ more) ≡ true → all_differ read ≡ true
+differ-front : (read more : List (List ℕ)) → are_distinct (read ++ more) ≡ true → are_distinct read ≡ true
 differ-front [] more is = refl
 differ-front (first ∷ read) more is =
-    let parts = both (not (list_any (same_keyword first) (read ++ more))) (all_differ (read ++ more)) is in
+    let parts = both (not (list_any (same_keyword first) (read ++ more))) (are_distinct (read ++ more)) is in
     both_true (not-front (list_any (same_keyword first) read) (list_any (same_keyword first) more)
     (ap not (sym (list_any-append (same_keyword first) read more)) ∙ parts.0)) (differ-front read more parts.1)
   where
@@ -71,10 +72,10 @@ may-more read name is =
     let few : nat_le (length (read ++ name ∷ [])) 30 ≡ not (nat_le 30 (length read)) = grind (arith, nat_tests, length-append read (name ∷ [])) in
     let keywords : list_all is_keyword (read ++ name ∷ []) ≡ is_keyword name =
     list_all-append is_keyword read (name ∷ []) ∙ ap (λ test. test && (is_keyword name && true)) parts.0 ∙ and-true (is_keyword name) in
-    let differ : all_differ (read ++ name ∷ []) ≡ not (list_any (λ each. same_keyword each name) read) =
+    let differ : are_distinct (read ++ name ∷ []) ≡ not (list_any (λ each. same_keyword each name) read) =
     differ-more read name ∙ ap (λ test. test && not (list_any (λ each. same_keyword each name) read)) others.1 in
-    ap (λ test. test && (nat_le (length (read ++ name ∷ [])) 30 && all_differ (read ++ name ∷ []))) keywords
-    ∙ ap (λ test. is_keyword name && (test && all_differ (read ++ name ∷ []))) few
+    ap (λ test. test && (nat_le (length (read ++ name ∷ [])) 30 && are_distinct (read ++ name ∷ []))) keywords
+    ∙ ap (λ test. is_keyword name && (test && are_distinct (read ++ name ∷ []))) few
     ∙ ap (λ test. is_keyword name && (not (nat_le 30 (length read)) && test)) differ
 
 may-front : (read more : List (List ℕ)) → may_be_names (read ++ more) ≡ true → may_be_names read ≡ true
@@ -194,8 +195,8 @@ unfolding names_of
 names-may text names is = some-names (may_be_names (split_names text)) (split_names text) names refl (sym is)
 
 pub read-end : (text : List ℕ) (read : List (List ℕ)) (is_more : Bool) (rest : List ℕ) → names_after read (names_left is_more rest) ≡ names_of text → is_more ≡ false
-    → (length read ≤ 30) × (all_differ read ≡ true)
+    → (length read ≤ 30) × (are_distinct read ≡ true)
 read-end text read is_more rest same done =
     let may = names-may text read (sym (ap (λ test. names_after read (names_left test rest)) done) ∙ same) in
-    let parts = both (nat_le (length read) 30) (all_differ read) (both (list_all is_keyword read) _ may).1 in
+    let parts = both (nat_le (length read) 30) (are_distinct read) (both (list_all is_keyword read) _ may).1 in
     (grind (arith, nat_tests, parts.0), parts.1)

@@ -1,12 +1,6 @@
 -- The lines of the metadata: each ends with CRLF (a CR or an LF alone is a byte of its line).
-use Rattle.std.specs.Prelude.{ℕ, suc, Bool, false, List, [], ◌∷◌, ◌==◌, ◌&&◌, if◌then◌else◌}
+use Rattle.std.specs.Prelude.{ℕ, suc, List, [], ◌∷◌, ◌==◌, ◌&&◌, if◌then◌else◌}
 use Rattle.std.specs.List.{onto_first}
-
--- CRLF stands at the front of a text
-abbrev pub begins_crlf : List ℕ → Bool
-begins_crlf [] = false
-begins_crlf (byte ∷ []) = false
-begins_crlf (byte ∷ next ∷ rest) = (byte == 13) && (next == 10)
 
 -- the lines of a text, each up to and with its CRLF; the last may have none
 abbrev pub crlf_lines : List ℕ → List (List ℕ)

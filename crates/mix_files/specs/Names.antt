@@ -1,23 +1,12 @@
 -- The keyword names of the metadata, with one space between.
-use Rattle.std.specs.Prelude.{ℕ, Bool, true, not, List, [], ◌∷◌, ◌++◌, Option, Some, None, nat_le, ◌==◌, ◌&&◌, if◌then◌else◌, length}
-use Rattle.std.specs.List.{list_all, list_any, slice_split, flat_map}
-use Rattle.mail_fields.specs.Keyword.{is_atom, same_keyword}
-
-abbrev pub is_space : ℕ → Bool
-is_space byte = byte == 32
-
--- a keyword's name: 1 to 64 atom bytes (RFC 3501, section 2.3.2)
-abbrev pub is_keyword : List ℕ → Bool
-is_keyword name = nat_le 1 (length name) && (nat_le (length name) 64 && list_all is_atom name)
-
--- no name is the same as a later one, whatever the case of their letters
-abbrev pub all_differ : List (List ℕ) → Bool
-all_differ [] = true
-all_differ (name ∷ names) = not (list_any (same_keyword name) names) && all_differ names
+use Rattle.std.specs.Prelude.{ℕ, Bool, List, [], ◌∷◌, ◌++◌, Option, Some, None, nat_le, ◌==◌, ◌&&◌, if◌then◌else◌, length}
+use Rattle.std.specs.List.{list_all, slice_split, flat_map}
+use Rattle.mail_fields.specs.Keyword.{is_keyword}
+use Rattle.mail_fields.specs.Names.{is_space, are_distinct}
 
 -- names that a mailbox may have: at most 30 keywords, none repeated
 abbrev pub may_be_names : List (List ℕ) → Bool
-may_be_names names = list_all is_keyword names && (nat_le (length names) 30 && all_differ names)
+may_be_names names = list_all is_keyword names && (nat_le (length names) 30 && are_distinct names)
 
 -- what stands between the spaces of a text; no name stands in nothing
 abbrev pub split_names : List ℕ → List (List ℕ)

@@ -1,13 +1,9 @@
 // Lines of the metadata.
 ghost use Rattle.std.specs.Prelude.{◌≡◌, ◌<◌, ◌≤◌, ◌+◌, ◌∷◌, [], Some, None, MatchOption, IfSome, length, take, drop};
-ghost use Rattle.mix_files.specs.CrlfLines.{begins_crlf, first_line_len};
+ghost use Rattle.mix_files.specs.CrlfLines.{first_line_len};
 ghost use Rattle.mix_files.specs.Metadata.{line_parts, is_known, is_further, kept_lines};
 
-fn begins_crlf(text: &[u8]) -> bool
-    ensures { result ≡ begins_crlf text.now }
-{
-    matches!(text, [b'\r', b'\n', ..])
-}
+use memchr::memchr;
 
 // The length of the first line with its CRLF, or of the whole text where it has none.
 fn line_length(text: &[u8]) -> usize
@@ -15,14 +11,15 @@ fn line_length(text: &[u8]) -> usize
     ensures within { result ≤ length text.now }
     ensures some { 0 < length text.now → 0 < result }
 {
-    let mut at = 0;
-    while at < text.len() {
-        if begins_crlf(&text[at..]) {
-            return at + 2;
+    let mut from = 0;
+    while let Some(feed) = memchr(b'\n', &text[from..]) {
+        let end = from + feed;
+        if feed > 0 && text[end - 1] == b'\r' {
+            return end + 1;
         }
-        at += 1;
+        from = end + 1;
     }
-    at
+    text.len()
 }
 
 // The first byte of a line that CRLF ends, and what stands between.

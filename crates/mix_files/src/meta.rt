@@ -2,7 +2,8 @@
 ghost use Rattle.std.specs.Prelude.{◌≡◌, ◌≢◌, ◌<◌, ◌≤◌, ◌^◌, ◌++◌, Some, None, true, OnOk, IfOk, IfSome, MatchOption, length};
 ghost use Rattle.mix_files.specs.Metadata.{meta_of, meta_text, kept_lines, number_first, number_of_line, number_line, names_alone, names_of_line, names_line};
 ghost use Rattle.std.specs.List.{list_all};
-ghost use Rattle.mix_files.specs.Names.{is_keyword, all_differ};
+ghost use Rattle.mail_fields.specs.Keyword.{is_keyword};
+ghost use Rattle.mail_fields.specs.Names.{are_distinct};
 
 use crate::line::{line_parts, next_line};
 use crate::names::{put_names, read_names};
@@ -29,7 +30,7 @@ pub fn read_meta(alloc: Global, bytes: &[u8]) -> Result<Option<Meta>, AllocError
     // so that it can be written again
     ensures validity { IfOk result (λ found. IfSome found (λ meta. meta.validity ≢ 0)) }
     ensures few { IfOk result (λ found. IfSome found (λ meta. length meta.words ≤ 30)) }
-    ensures differ { IfOk result (λ found. IfSome found (λ meta. all_differ meta.words ≡ true)) }
+    ensures differ { IfOk result (λ found. IfSome found (λ meta. are_distinct meta.words ≡ true)) }
 {
     let Some((sequence, rest)) = read_number(bytes, b'S') else {
         return Ok(None);
@@ -85,7 +86,7 @@ fn read_number_line(line: &[u8], letter: u8) -> Option<u32>
 fn read_names_alone(alloc: Global, text: &[u8]) -> Result<Option<Keywords>, AllocError>
     ensures value { IfOk result (λ found. found ≡ names_alone (kept_lines text.now)) }
     ensures few { IfOk result (λ found. IfSome found (λ names. length names ≤ 30)) }
-    ensures differ { IfOk result (λ found. IfSome found (λ names. all_differ names ≡ true)) }
+    ensures differ { IfOk result (λ found. IfSome found (λ names. are_distinct names ≡ true)) }
 {
     let Some((line, behind)) = next_line(text) else {
         return Ok(None);
@@ -101,7 +102,7 @@ fn read_names_alone(alloc: Global, text: &[u8]) -> Result<Option<Keywords>, Allo
 fn read_names_line(alloc: Global, line: &[u8]) -> Result<Option<Keywords>, AllocError>
     ensures value { IfOk result (λ found. found ≡ names_of_line line.now) }
     ensures few { IfOk result (λ found. IfSome found (λ names. length names ≤ 30)) }
-    ensures differ { IfOk result (λ found. IfSome found (λ names. all_differ names ≡ true)) }
+    ensures differ { IfOk result (λ found. IfSome found (λ names. are_distinct names ≡ true)) }
 {
     match line_parts(line) {
         Some((b'K', names)) => read_names(alloc, names),
@@ -114,7 +115,7 @@ fn read_names_line(alloc: Global, line: &[u8]) -> Result<Option<Keywords>, Alloc
 pub fn put_meta(alloc: Global, meta: &Meta) -> Result<Vec<u8>, AllocError>
     requires validity { meta.now.validity ≢ 0 }
     requires few { length meta.now.words ≤ 30 }
-    requires differ { all_differ meta.now.words ≡ true }
+    requires differ { are_distinct meta.now.words ≡ true }
     ensures text { IfOk result (λ v. v.items ≡ meta_text meta.now) }
     ensures read { IfOk result (λ v. meta_of v.items ≡ Some meta.now) }
 {

@@ -1,18 +1,18 @@
 // Keyword names with one space between.
 ghost use Rattle.std.specs.Prelude.{◌≡◌, ◌≤◌, ◌++◌, ◌&&◌, true, not, nat_le, OnOk, IfOk, IfSome, length};
 ghost use Rattle.std.specs.List.{before_first, after_first, list_all, list_any};
-ghost use Rattle.mail_fields.specs.Keyword.{same_keyword};
-ghost use Rattle.mix_files.specs.Names.{is_space, is_keyword, all_differ, names_of, names_text};
+ghost use Rattle.mail_fields.specs.Keyword.{same_keyword, is_keyword};
+ghost use Rattle.mail_fields.specs.Names.{is_space, are_distinct};
+ghost use Rattle.mix_files.specs.Names.{names_of, names_text};
 
-use mail_fields::{Keyword, Keywords};
-use memchr::memchr;
+use mail_fields::{Keyword, Keywords, is_taken, split_at_space};
 use std::alloc::{AllocError, Global};
 
 // The names that a text is.
 pub(crate) fn read_names(alloc: Global, text: &[u8]) -> Result<Option<Keywords>, AllocError>
     ensures value { IfOk result (λ found. found ≡ names_of text.now) }
     ensures few { IfOk result (λ found. IfSome found (λ names. length names ≤ 30)) }
-    ensures differ { IfOk result (λ found. IfSome found (λ names. all_differ names ≡ true)) }
+    ensures differ { IfOk result (λ found. IfSome found (λ names. are_distinct names ≡ true)) }
 {
     let mut names = Vec::new(alloc);
     let mut rest = text;
@@ -32,29 +32,11 @@ pub(crate) fn read_names(alloc: Global, text: &[u8]) -> Result<Option<Keywords>,
     Ok(Some(Keywords::of(names)))
 }
 
-// What stands before the first space, and what behind it.
-fn split_at_space(text: &[u8]) -> (&[u8], &[u8])
-    ensures before { result.0.now ≡ before_first is_space text.now }
-    ensures behind { result.1.now ≡ after_first is_space text.now }
-{
-    match memchr(b' ', text) {
-        Some(at) => (&text[..at], &text[at + 1..]),
-        None => (text, &text[text.len()..]),
-    }
-}
-
 // Whether fewer than 30 names stand before a name, and none of them is the same.
 fn may_follow(names: &[Keyword], name: &Keyword) -> bool
     ensures { result ≡ (not (nat_le 30 (length names.now)) && not (list_any (λ each. same_keyword each name.now) names.now)) }
 {
     names.len() < 30 && !is_taken(names, name)
-}
-
-// Whether one of some names is the same as a name.
-fn is_taken(names: &[Keyword], name: &Keyword) -> bool
-    ensures { result ≡ list_any (λ each. same_keyword each name.now) names.now }
-{
-    names.iter().any(|each| each.same(name))
 }
 
 // Appends names, which are those of keywords.

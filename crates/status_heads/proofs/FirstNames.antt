@@ -4,9 +4,9 @@ use Rattle.std.specs.List.{list_any}
 use Rattle.std.proofs.lemmas.Bool.{cases_Bool, and_parts}
 use Rattle.std.proofs.lemmas.Bool.Decides.{nat_tests}
 use Rattle.std.proofs.lemmas.List.Folds.{list_any-append}
-use Rattle.mail_fields.specs.Keyword.{same_keyword}
-use Rattle.mail_types.specs.Mailboxes.{are_distinct}
-use Rattle.status_heads.specs.Names.{is_keyword, is_new, words_of, with_names}
+use Rattle.mail_fields.specs.Keyword.{same_keyword, is_keyword}
+use Rattle.mail_fields.specs.Names.{are_distinct}
+use Rattle.status_heads.specs.Names.{is_new, words_of, with_names}
 
 shuffled : (a b c d : Bool) → (not (a || (b || false)) && (c && not d)) ≡ ((not a && c) && not (b || d))
 shuffled true b c d = refl

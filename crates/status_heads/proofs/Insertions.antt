@@ -1,5 +1,5 @@
 -- Lines of fields before the first empty line of a text.
-use Rattle.std.proofs.Common.{◌≡◌, ℕ, ⊎_elim, inl, inr, Bool, true, false, cond, List, [], ◌∷◌, ◌++◌, ◌||◌, length, drop, append-nil, refl, ap, sym, subst, ◌∙◌}
+use Rattle.std.proofs.Common.{◌≡◌, ℕ, ⊎_elim, inl, Bool, true, false, cond, List, [], ◌∷◌, ◌++◌, ◌||◌, length, drop, append-nil, refl, ap, sym, ◌∙◌}
 use Rattle.std.specs.List.{before_first, concat, list_any}
 use Rattle.std.proofs.lemmas.Bool.{cases_Bool, cond-true, cond-false, false≢true}
 use Rattle.std.proofs.lemmas.List.{drop_at}
@@ -9,7 +9,7 @@ use Rattle.text_lines.proofs.Lines.{before-step}
 use Rattle.text_lines.proofs.Texts.{is_closed, joined, AreLines, are-lines, lines-joined}
 use Rattle.text_forms.specs.Lines.{is_continuation, is_dropped, is_reserved}
 use Rattle.text_forms.specs.Forms.{drop_reserved, has_empty_line, unreserved_lines}
-use Rattle.text_forms.proofs.ReservedFields.{has_reserved, all-gone}
+use Rattle.text_forms.proofs.ReservedFields.{has_reserved, all-gone, unreserved-lines}
 use Rattle.status_heads.specs.Insertions.{with_fields}
 
 -- a line with LF at its end and something before its line end
@@ -69,34 +69,11 @@ split (line ∷ lines) are has none = ⊎_elim
     ))
     (cases_Bool (is_empty_line line))
 
--- lines without the reserved ones are lines
-left-lines : (above : Bool) (lines : List (List ℕ)) → AreLines lines → AreLines (unreserved_lines above lines)
-left-lines above [] are = tt
-left-lines above (line ∷ lines) are =
-    let header : AreLines (cond (is_dropped above line) (unreserved_lines true lines) (line ∷ unreserved_lines false lines)) = ⊎_elim
-    (λ more.
-    let goes = left-lines true lines more.1 in
-    let stays = left-lines false lines more.1 in
-    elim (is_dropped above line) as (λ is. AreLines (cond is (unreserved_lines true lines) (line ∷ unreserved_lines false lines))) [
-      | true ↦ goes
-      | false ↦ inl (more.0, stays)
-    ])
-    (λ last.
-    let alone : AreLines (cond (is_dropped above line) [] (line ∷ [])) =
-    elim (is_dropped above line) as (λ is. AreLines (cond is [] (line ∷ []))) [ true ↦ tt | false ↦ inr (last.0, last.1, refl) ] in
-    subst (λ l. AreLines (cond (is_dropped above line) (unreserved_lines true l) (line ∷ unreserved_lines false l))) (sym last.2) alone)
-    are in
-    elim (is_empty_line line)
-    as (λ is. AreLines (cond is (line ∷ lines) (cond (is_dropped above line) (unreserved_lines true lines) (line ∷ unreserved_lines false lines)))) [
-      | true ↦ are
-      | false ↦ header
-    ]
-
 -- a text that loses nothing has no reserved field
 pub none-reserved : (text : List ℕ) → drop_reserved text ≡ text → has_reserved (lines_of text) ≡ false
 none-reserved text same =
     let left = unreserved_lines false (lines_of text) in
-    let lines : lines_of text ≡ left = ap lines_of (sym same) ∙ lines-joined left (left-lines false (lines_of text) (are-lines text)) in
+    let lines : lines_of text ≡ left = ap lines_of (sym same) ∙ lines-joined left (unreserved-lines false (lines_of text) (are-lines text)) in
     ap has_reserved lines ∙ all-gone false (lines_of text)
 
 each-free : (lines : List (List ℕ)) → Each IsFree lines → Each IsFilled lines

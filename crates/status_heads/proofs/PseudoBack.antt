@@ -10,15 +10,16 @@ use Rattle.text_lines.specs.Lines.{lines_of, header_of, is_empty_line}
 use Rattle.text_lines.proofs.Texts.{AreLines, lines-joined}
 use Rattle.head_fields.specs.Fields.{readings_of}
 use Rattle.head_fields.specs.Folding.{unfolded}
-use Rattle.mail_fields.specs.Keyword.{is_atom, same_keyword}
+use Rattle.mail_fields.specs.Keyword.{is_atom, same_keyword, is_keyword}
 use Rattle.mail_fields.specs.Numbers.{number_in, digits_in}
 use Rattle.mail_fields.proofs.Digits.{length-digits_in, number-digits}
-use Rattle.mail_types.specs.Mailboxes.{are_distinct, greatest_number}
+use Rattle.mail_fields.specs.Names.{are_distinct}
+use Rattle.mail_types.specs.Mailboxes.{greatest_number}
 use Rattle.status_heads.specs.declared.base.Base.{Base}
 use Rattle.status_heads.specs.Bases.{base_of, base_of_words}
 use Rattle.status_heads.specs.Fields.{value_named}
 use Rattle.status_heads.specs.HeadTexts.{field_line, names_text, spaced_names}
-use Rattle.status_heads.specs.Names.{is_keyword, is_new, with_names, words_of}
+use Rattle.status_heads.specs.Names.{is_new, with_names, words_of}
 use Rattle.status_heads.specs.Numbers.{number_between, greatest_uid}
 use Rattle.status_heads.specs.PseudoTexts.{base_text, pseudo_message, ten_digits}
 use Rattle.status_heads.proofs.FirstNames.{distinct-more}

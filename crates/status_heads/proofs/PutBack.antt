@@ -14,7 +14,8 @@ use Rattle.status_heads.specs.Fields.{value_named}
 use Rattle.status_heads.specs.HeadTexts.{head_lines, heads_text, letter_if, lines_of_field, status_text, more_text, names_text, uid_text}
 use Rattle.status_heads.specs.Heads.{has_letter, heads_in, heads_of, flags_of}
 use Rattle.status_heads.specs.Insertions.{with_fields}
-use Rattle.status_heads.specs.Names.{is_keyword, names_of}
+use Rattle.mail_fields.specs.Keyword.{is_keyword}
+use Rattle.status_heads.specs.Names.{names_of}
 use Rattle.status_heads.specs.Numbers.{number_between, greatest_uid}
 use Rattle.status_heads.proofs.Insertions.{Each, IsMade, IsFree, none-reserved, header-with, dropped-again, front, front-free}
 use Rattle.status_heads.proofs.MadeLines.{is_clean, status-name, more-name, words-name, uid-name, made-lines, lines-read, value-passed, value-found}

@@ -1,22 +1,12 @@
 -- The words of a value, one by one.
-use Rattle.std.proofs.Common.{◌≡◌, ℕ, ◌+◌, ◌<◌, ⊎_elim, true, false, List, [], ◌∷◌, length, Some, None, cond, refl, ap, sym, ◌∙◌, arith, nat_lt}
+use Rattle.std.proofs.Common.{◌≡◌, ℕ, ◌+◌, ◌<◌, ⊎_elim, true, false, List, [], ◌∷◌, length, cond, refl, ap, sym, ◌∙◌, arith, nat_lt}
 use Rattle.std.specs.List.{slice_split, before_first, after_first, position_or_len, filter}
-use Rattle.std.proofs.lemmas.Bool.{cases_lt, false_from_ne_true}
+use Rattle.std.proofs.lemmas.Bool.{cases_lt}
 use Rattle.std.proofs.lemmas.List.{take_all, drop_all, length-drop}
 use Rattle.std.proofs.lemmas.List.Splits.{slice_split_first, slice_split_none}
-use Rattle.std.proofs.lemmas.List.Sums.{fails_before_first, position_or_len_is}
-use Rattle.memchr.specs.Find.{IsFirstByte, is_byte}
-use Rattle.status_heads.specs.Names.{is_space, words_of}
-
--- where the first space stands
-pub space-found : (text : List ℕ) (at : ℕ) → IsFirstByte (is_byte 32) text (Some at) → position_or_len is_space text ≡ at
-space-found text at first =
-    let before = first.0.before in
-    position_or_len_is is_space text at 0 (omega (arith, first.0.high)) (λ k below. false_from_ne_true _ (before k (omega arith) below)) (λ _. first.1)
-
-pub space-none : (text : List ℕ) → IsFirstByte (is_byte 32) text None → position_or_len is_space text ≡ length text
-space-none text nowhere =
-    position_or_len_is is_space text (length text) 0 (omega arith) (λ k below. false_from_ne_true _ (nowhere k (omega arith) below)) (λ inside. absurd (omega arith))
+use Rattle.std.proofs.lemmas.List.Sums.{fails_before_first}
+use Rattle.mail_fields.specs.Names.{is_space}
+use Rattle.status_heads.specs.Names.{words_of}
 
 pub no-words : (text : List ℕ) → length text ≡ 0 → words_of text ≡ []
 unfolding words_of

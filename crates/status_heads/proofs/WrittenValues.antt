@@ -13,9 +13,10 @@ use Rattle.text_lines.proofs.Texts.{is_open, lines-joined}
 use Rattle.text_forms.proofs.LineEnds.{no-end-behind}
 use Rattle.head_fields.specs.Blanks.{is_blank, trim_start, trim_end}
 use Rattle.head_fields.specs.Folding.{unfolded}
-use Rattle.mail_fields.specs.Keyword.{is_atom}
+use Rattle.mail_fields.specs.Keyword.{is_atom, is_keyword}
 use Rattle.status_heads.specs.HeadTexts.{letter_if, names_text, spaced_names}
-use Rattle.status_heads.specs.Names.{is_space, is_keyword, names_of, words_of}
+use Rattle.mail_fields.specs.Names.{is_space}
+use Rattle.status_heads.specs.Names.{names_of, words_of}
 use Rattle.status_heads.proofs.MadeLines.{is_clean, first-clean, rest-clean}
 
 -- a clean value is one line

@@ -1,18 +1,12 @@
 -- The names of keywords in a value, with one or more spaces between (RFC 3501, section 2.3.2).
-use Rattle.std.specs.Prelude.{ℕ, Bool, not, List, [], ◌∷◌, ◌++◌, nat_le, nat_lt, ◌==◌, ◌&&◌, if◌then◌else◌, length}
-use Rattle.std.specs.List.{list_all, list_any, slice_split, filter}
-use Rattle.mail_fields.specs.Keyword.{is_atom, same_keyword}
-
-abbrev pub is_space : ℕ → Bool
-is_space byte = byte == 32
+use Rattle.std.specs.Prelude.{ℕ, Bool, not, List, [], ◌∷◌, ◌++◌, nat_lt, ◌&&◌, if◌then◌else◌, length}
+use Rattle.std.specs.List.{list_any, slice_split, filter}
+use Rattle.mail_fields.specs.Keyword.{is_keyword, same_keyword}
+use Rattle.mail_fields.specs.Names.{is_space}
 
 -- what stands in a value between spaces
 unfoldable pub words_of : List ℕ → List (List ℕ)
 words_of value = filter (λ word. nat_lt 0 (length word)) (slice_split is_space value)
-
--- a keyword's name: 1 to 64 atom bytes
-abbrev pub is_keyword : List ℕ → Bool
-is_keyword name = nat_le 1 (length name) && (nat_le (length name) 64 && list_all is_atom name)
 
 -- the names of a value: its words that are names, in their order
 abbrev pub names_of : List ℕ → List (List ℕ)

@@ -1,6 +1,6 @@
 // The base of a mailbox.
 ghost use Rattle.std.specs.Prelude.{◌≡◌, ◌≢◌, ◌≤◌, Some, None, true, length, IfOk, IfSome, MatchOption};
-ghost use Rattle.mail_types.specs.Mailboxes.{are_distinct};
+ghost use Rattle.mail_fields.specs.Names.{are_distinct};
 ghost use Rattle.status_heads.specs.Bases.{number_first, base_of, base_of_words};
 ghost use Rattle.status_heads.specs.Names.{words_of};
 ghost use Rattle.status_heads.specs.Numbers.{greatest_uid};

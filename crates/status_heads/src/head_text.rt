@@ -5,7 +5,7 @@ ghost use Rattle.text_forms.specs.Forms.{drop_reserved, has_empty_line};
 ghost use Rattle.status_heads.specs.HeadTexts.{heads_text, letter_if, lines_of_field, more_text, names_text, spaced_names, status_text, uid_text};
 ghost use Rattle.status_heads.specs.Heads.{heads_of};
 ghost use Rattle.status_heads.specs.Insertions.{with_fields};
-ghost use Rattle.status_heads.specs.Names.{is_keyword};
+ghost use Rattle.mail_fields.specs.Keyword.{is_keyword};
 ghost use Rattle.status_heads.specs.Numbers.{greatest_uid};
 
 use crate::heads::Heads;

@@ -2,23 +2,11 @@
 ghost use Rattle.std.specs.Prelude.{◌≡◌, ◌<◌, ◌≤◌, ◌∷◌, ◌++◌, [], true, if◌then◌else◌, length, IfOk, IfSome, OnOk, MatchOption};
 ghost use Rattle.std.specs.List.{before_first, after_first, list_any};
 ghost use Rattle.mail_fields.specs.Keyword.{same_keyword};
-ghost use Rattle.mail_types.specs.Mailboxes.{are_distinct};
-ghost use Rattle.status_heads.specs.Names.{is_space, words_of, names_of, is_new, with_names};
+ghost use Rattle.mail_fields.specs.Names.{is_space, are_distinct};
+ghost use Rattle.status_heads.specs.Names.{words_of, names_of, is_new, with_names};
 
-use mail_fields::{Keyword, Keywords};
-use memchr::memchr;
+use mail_fields::{Keyword, Keywords, is_taken, split_at_space};
 use std::alloc::{AllocError, Global};
-
-// What stands before the first space, and what behind it.
-fn split_at_space(text: &[u8]) -> (&[u8], &[u8])
-    ensures before { result.0.now ≡ before_first is_space text.now }
-    ensures behind { result.1.now ≡ after_first is_space text.now }
-{
-    match memchr(b' ', text) {
-        Some(at) => (&text[..at], &text[at + 1..]),
-        None => (text, &text[text.len()..]),
-    }
-}
 
 // The first word of a value, and what stands behind it.
 pub(crate) fn next_word(value: &[u8]) -> Option<(&[u8], &[u8])>
@@ -82,11 +70,4 @@ fn add_name(alloc: Global, names: &mut Vec<Keyword>, word: &[u8]) -> Result<(), 
     }
     names.push(name)?;
     Ok(())
-}
-
-// Whether one of some names is the same as a name.
-fn is_taken(names: &[Keyword], name: &Keyword) -> bool
-    ensures { result ≡ list_any (λ each. same_keyword each name.now) names.now }
-{
-    names.iter().any(|each| each.same(name))
 }

@@ -2,9 +2,9 @@
 ghost use Rattle.std.specs.Prelude.{◌≡◌, ◌≢◌, ◌<◌, ◌≤◌, ◌%◌, ◌^◌, ◌++◌, Some, true, codes, length, IfOk, OnOk};
 ghost use Rattle.std.specs.Char.{digit_char};
 ghost use Rattle.std.specs.List.{list_all};
-ghost use Rattle.mail_types.specs.Mailboxes.{are_distinct};
+ghost use Rattle.mail_fields.specs.Names.{are_distinct};
 ghost use Rattle.status_heads.specs.Bases.{base_of};
-ghost use Rattle.status_heads.specs.Names.{is_keyword};
+ghost use Rattle.mail_fields.specs.Keyword.{is_keyword};
 ghost use Rattle.status_heads.specs.Numbers.{greatest_uid};
 ghost use Rattle.status_heads.specs.PseudoTexts.{base_text, pseudo_message, pseudo_text, ten_digits};
 

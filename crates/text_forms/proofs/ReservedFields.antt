@@ -84,7 +84,8 @@ all-gone above (line ∷ lines) = ⊎_elim
         (λ first. sym (cond-false (is_continuation line) above (is_reserved line) first) ∙ stays)
         (cases_Bool (is_continuation line))
 
-unreserved-lines : (above : Bool) (lines : List (List ℕ)) → AreLines lines → AreLines (unreserved_lines above lines)
+-- lines without the reserved ones are lines
+pub unreserved-lines : (above : Bool) (lines : List (List ℕ)) → AreLines lines → AreLines (unreserved_lines above lines)
 unreserved-lines above [] are = tt
 unreserved-lines above (line ∷ lines) are =
     let header : AreLines (cond (is_dropped above line) (unreserved_lines true lines) (line ∷ unreserved_lines false lines)) = ⊎_elim

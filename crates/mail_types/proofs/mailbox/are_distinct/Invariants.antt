@@ -1,5 +1,5 @@
 use Rattle.std.proofs.Common.{◌≡◌, drop}
-use Rattle.mail_types.specs.Mailboxes.{are_distinct}
+use Rattle.mail_fields.specs.Names.{are_distinct}
 use Rattle.mail_types.proofs.mailbox.are_distinct.Given as goal
 
 abbrev pub invariant-loop-number : goal.invariant-loop-number

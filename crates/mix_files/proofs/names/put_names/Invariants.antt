@@ -1,6 +1,7 @@
 use Rattle.std.proofs.Common.{◌≡◌, ◌++◌, ◌∷◌, take, drop, true}
 use Rattle.std.specs.List.{flat_map, list_all}
-use Rattle.mix_files.specs.Names.{is_keyword, names_text}
+use Rattle.mail_fields.specs.Keyword.{is_keyword}
+use Rattle.mix_files.specs.Names.{names_text}
 use Rattle.mix_files.proofs.names.put_names.Given as goal
 
 abbrev pub invariant-loop-name : goal.invariant-loop-name

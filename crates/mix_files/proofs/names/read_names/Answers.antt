@@ -1,5 +1,5 @@
 use Rattle.std.proofs.Common.{◌∙◌, ◌∷◌, ◌++◌, [], ◌≤◌, length, ap, sym, subst}
-use Rattle.mix_files.specs.Names.{all_differ}
+use Rattle.mail_fields.specs.Names.{are_distinct}
 use Rattle.mix_files.proofs.NameTexts.{fits-tested, fits-none, name-read, name-refused, read-start, read-end}
 use Rattle.mix_files.proofs.names.read_names.Goals as goal
 
@@ -33,5 +33,5 @@ returns-clause-few c =
 
 pub returns-clause-differ : goal.returns-clause-differ
 returns-clause-differ c =
-    ap all_differ c.of.ensures
+    ap are_distinct c.of.ensures
     ∙ (read-end c.args.text.now c.loop-is_more.names.items c.loop-is_more.is_more c.loop-is_more.rest.now c.loop-is_more.invariant c.loop-is_more-test.false).1

@@ -1,7 +1,7 @@
 use Rattle.std.proofs.Common.{◌≡◌, ◌++◌, drop, take, true}
 use Rattle.std.specs.List.{list_all}
 use Rattle.status_heads.specs.HeadTexts.{spaced_names}
-use Rattle.status_heads.specs.Names.{is_keyword}
+use Rattle.mail_fields.specs.Keyword.{is_keyword}
 use Rattle.status_heads.proofs.head_text.put_spaced.Given as goal
 
 abbrev pub invariant-loop-name : goal.invariant-loop-name

@@ -1,5 +1,5 @@
 use Rattle.std.proofs.Common.{◌≤◌, ◌∙◌, length, subst, sym, ap}
-use Rattle.mail_types.specs.Mailboxes.{are_distinct}
+use Rattle.mail_fields.specs.Names.{are_distinct}
 use Rattle.status_heads.proofs.FirstNames.{first-may}
 use Rattle.status_heads.proofs.names.read_first_names.Goals as goal
 

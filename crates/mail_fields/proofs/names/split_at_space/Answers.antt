@@ -1,7 +1,7 @@
 use Rattle.std.proofs.Common.{◌∙◌, ◌+◌, length, take, drop, ap, sym, arith}
 use Rattle.std.proofs.lemmas.List.{take_rest, take_all, drop_all}
-use Rattle.status_heads.proofs.WordSplits.{space-found, space-none}
-use Rattle.status_heads.proofs.names.split_at_space.Goals as goal
+use Rattle.mail_fields.proofs.Spaces.{space-found, space-none}
+use Rattle.mail_fields.proofs.names.split_at_space.Goals as goal
 
 pub returns-in-Some-clause-before : goal.returns-in-Some-clause-before
 returns-in-Some-clause-before c = ap (λ at. take at c.args.text.now) (sym (space-found c.args.text.now c.in-Some.at c.in-Some.ensures))
