@@ -292,3 +292,33 @@ fn a_session_begins_on_what_a_crash_left(rt: HostRuntime) -> Result<(), Fail> {
     assert!(rt; next.file("/m/f") == Some(b"old".as_slice()));
     Ok(())
 }
+
+// ---- A long run
+
+// A file of 64 KiB, of which 50 places are written.
+fn written(alloc: Global) -> Result<MemHost, AllocError> {
+    let mut bytes = Vec::new(alloc);
+    bytes.resize(65536, 0)?;
+    let mut host = with_file(alloc, "/m/f", bytes.as_slice())?;
+    for place in 0..50 {
+        let _ = write(&mut host, "/m/f", place, b"x");
+    }
+    Ok(host)
+}
+
+#[test]
+fn a_long_run_has_many_images(rt: HostRuntime) -> Result<(), Fail> {
+    let host = written(rt.alloc())?;
+    assert!(rt; host.calls() == 100);
+    for call in 0..100 {
+        for pick in 0..64 {
+            let image = host.image(call, pick)?;
+            let first = match image.file("/m/f") {
+                Some(bytes) if bytes.len() == 65536 => bytes[0],
+                _ => 1,
+            };
+            assert!(rt; first == 0 || first == b'x' || first == 255 - b'x');
+        }
+    }
+    Ok(())
+}

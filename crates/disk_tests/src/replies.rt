@@ -83,16 +83,38 @@ fn is_refused(host: &MemHost, answer: Result<(), Fault>) -> bool {
     answer == Err(Fault::Failed) && host.file_faults() == 1 && host.said().is_empty()
 }
 
+// Whether each image of each call has these bytes at a path.
+fn images_have(host: &MemHost, path: &str, bytes: Option<&[u8]>) -> Result<bool, AllocError> {
+    for call in 0..8 {
+        for pick in 0..16 {
+            let image = host.image(call, pick)?;
+            if image.file(path) != bytes {
+                return Ok(false);
+            }
+        }
+    }
+    Ok(true)
+}
+
 fn obstructed(alloc: Global) -> Result<bool, AllocError> {
     let mut host = with_obstacle(alloc)?;
     let answer = replace_and_say(alloc, &mut host, "/mail/inbox", b"new!", b"ok\r\n");
-    Ok(is_refused(&host, answer) && host.file("/mail/inbox") == Some(b"old".as_slice()))
+    Ok(
+        is_refused(&host, answer)
+            && host.file("/mail/inbox") == Some(b"old".as_slice())
+            && images_have(&host, "/mail/inbox", Some(b"old"))?
+            && images_have(&host, "/mail/.newinbox", None)?,
+    )
 }
 
 fn reserved(alloc: Global) -> Result<bool, AllocError> {
     let mut host = with_reserved(alloc)?;
     let answer = replace_and_say(alloc, &mut host, "/mail/.mixindex", b"new!", b"ok\r\n");
-    Ok(is_refused(&host, answer) && host.file("/mail/.mixindex").is_none())
+    Ok(
+        is_refused(&host, answer)
+            && host.file("/mail/.mixindex").is_none()
+            && images_have(&host, "/mail/.mixindex", None)?,
+    )
 }
 
 #[test]
