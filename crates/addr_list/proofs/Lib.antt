@@ -7,6 +7,7 @@ pub mod Lists
 pub mod Mailboxes
 pub mod Maps
 pub mod Marks
+pub mod Only
 pub mod Pieces
 pub mod Readings
 pub mod Routes

@@ -16,23 +16,23 @@ use Rattle.addr_list.proofs.Lists.{list-complete}
 use Rattle.addr_list.proofs.Marks.{begins-mark}
 
 -- an element in front, with what follows it
-record InFront (depth : ℕ) (tokens : List Token) (addresses : List Address) : Type 0 where
+pub record InFront (depth : ℕ) (tokens : List Token) (addresses : List Address) : Type 0 where
   pub e : Element
   pub more : List Address
   pub is : element_of tokens ≡ Some e
   pub reads : Reads e.opens (deeper e.opens depth) (drop e.width tokens) more
   pub whole : addresses ≡ added e.address more
 
-in-front : (depth : ℕ) (tokens : List Token) (addresses : List Address) → Reads true depth tokens addresses → InFront depth tokens addresses
+pub in-front : (depth : ℕ) (tokens : List Token) (addresses : List Address) → Reads true depth tokens addresses → InFront depth tokens addresses
 in-front _ _ _ (next_element depth tokens e more is r) = record { e = e; more = more; is = is; reads = r; whole = refl }
 
 -- a mark in front, or nothing
-data Marked (depth : ℕ) (tokens : List Token) (addresses : List Address) : Type 0 where
+pub data Marked (depth : ℕ) (tokens : List Token) (addresses : List Address) : Type 0 where
   over : depth ≡ 0 → tokens ≡ [] → addresses ≡ [] → Marked depth tokens addresses
   group_over : (d : ℕ) (rest : List Token) (more : List Address) → depth ≡ d + 1 → tokens ≡ mark 59 ∷ rest → addresses ≡ GroupEnd ∷ more → Reads false d rest more → Marked depth tokens addresses
   comma_next : (rest : List Token) → tokens ≡ mark 44 ∷ rest → Reads true depth rest addresses → Marked depth tokens addresses
 
-marked : (depth : ℕ) (tokens : List Token) (addresses : List Address) → Reads false depth tokens addresses → Marked depth tokens addresses
+pub marked : (depth : ℕ) (tokens : List Token) (addresses : List Address) → Reads false depth tokens addresses → Marked depth tokens addresses
 marked _ _ _ finished = over refl refl refl
 marked _ _ _ (group_ends depth tokens more r) = group_over depth tokens more refl refl refl r
 marked _ _ _ (next_comma depth tokens more r) = comma_next tokens refl r

@@ -1,8 +1,11 @@
 pub mod Choices
+pub mod Cuts
 pub mod Delimiters
 pub mod Examples
 pub mod Headers
+pub mod Marks
 pub mod Only
 pub mod Readings
 pub mod Skips
+pub mod Tails
 pub mod Trees

@@ -1,9 +1,8 @@
 -- The lines that divide a multipart, and the parts between them (RFC 2046, section 5.1.1).
-use Rattle.std.specs.Prelude.{◌≡◌, ℕ, Bool, false, not, List, [], ◌∷◌, ◌+◌, ◌<◌, ◌≤◌, ◌==◌, ◌||◌, ◌&&◌, if◌then◌else◌, Option, Some, None, length, take, drop, slice_range}
+use Rattle.std.specs.Prelude.{◌≡◌, ℕ, Bool, false, not, List, [], ◌∷◌, ◌+◌, ◌<◌, ◌≤◌, ◌==◌, ◌||◌, ◌&&◌, if◌then◌else◌, Option, Some, None, length, take, drop}
 use Rattle.std.specs.List.{concat, list_all, prefix_len, before_first}
 use Rattle.std.specs.Str.{bytes_eq}
 use Rattle.text_lines.specs.Lines.{lines_of, line_text}
-use Rattle.head_fields.specs.declared.span.Span.{Span}
 
 -- a space or a tab
 abbrev pub is_blank : ℕ → Bool
@@ -64,15 +63,6 @@ parts_from boundary offset (line ∷ rest) =
 -- the parts of a multipart body that stands at an offset
 abbrev pub parts_of_body : List ℕ → ℕ → List ℕ → List (ℕ × List ℕ)
 parts_of_body boundary offset body = parts_from boundary offset (lines_of body)
-
--- the offset and the text that a span stands for
-abbrev pub place_in : List ℕ → Span → ℕ × List ℕ
-place_in text span = (span.from, slice_range text span.from span.to)
-
--- a span stands in so many bytes
-pub record IsSpan (size : ℕ) (span : Span) : Type 0 where
-  pub ordered : span.from ≤ span.to
-  pub within : span.to ≤ size
 
 -- a line that a text begins with, and the lines behind it
 pub record BeginsLines (text line : List ℕ) : Type 0 where

@@ -1,16 +1,17 @@
 // How a part's body is divided (RFC 2046, sections 5.1 and 5.2.1).
-ghost use Rattle.std.specs.Prelude.{◌≡◌, ◌≤◌, ◌+◌, Some, None, length, drop, IfOk, MatchOption};
+ghost use Rattle.std.specs.Prelude.{◌≡◌, ◌+◌, Some, None, drop, IfOk, MatchOption};
 ghost use Rattle.head_fields.specs.Header.{body_start_of};
 ghost use Rattle.mime_parts.specs.Contents.{is_multipart, is_digest, is_message, boundary_of, as_bytes};
 ghost use Rattle.mime_parts.specs.Parts.{division_of};
-ghost use Rattle.mime_parts.specs.Readers.{division_in, AreSpans};
+ghost use Rattle.mime_parts.specs.Marks.{IsTail};
+ghost use Rattle.mime_parts.specs.Readers.{division_in, AreSections};
 
 use crate::content::Content;
-use crate::delimiter::part_spans;
+use crate::delimiter::{Section, sections};
 use crate::header::bare_media;
+use crate::mark::Tail;
 use crate::value::Media;
 use crate::word::is_same_word;
-use head_fields::{Span, body_start};
 use std::alloc::{AllocError, Global};
 
 fn is_multipart(content: &Content) -> bool
@@ -49,44 +50,37 @@ fn boundary(content: &Content) -> Option<&[u8]>
     None
 }
 
-/// Where the body begins of the part that a text is from an offset on.
-pub(crate) fn body_from(text: &[u8], from: usize) -> usize
-    requires { from ≤ length text.now }
-    ensures value { result ≡ from + body_start_of (drop from text.now) }
-    ensures within { result ≤ length text.now }
-{
-    from + body_start(&text[from..])
-}
-
-/// Where the parts of a multipart stand, or that a message stands there, that a multipart has no part, or that nothing is divided.
+/// The parts of a multipart, or that a message stands there, that a multipart has no part, or that nothing is divided.
 #[derive(Drop)]
-pub(crate) enum Division {
-    Several(Vec<Span>),
+pub(crate) enum Division<'a> {
+    Several(Vec<Section<'a>>),
     One,
     NoParts,
     Undivided,
 }
 
 /// How the body of the part is divided that a text is from an offset on.
-pub(crate) fn read_division(
+pub(crate) fn read_division<'a>(
     alloc: Global,
     content: &Content,
-    text: &[u8],
+    text: &'a [u8],
     from: usize,
-) -> Result<Division, AllocError>
-    requires { from ≤ length text.now }
+    body: &Tail<'a>,
+) -> Result<Division<'a>, AllocError>
+    requires tail { IsTail text.now body.now }
+    requires place { body.now.from ≡ from + body_start_of (drop from text.now) }
     ensures value { IfOk result (λ found. division_in text.now found ≡ division_of content.now from (drop from text.now)) }
-    ensures within { IfOk result (λ found. AreSpans (length text.now) found) }
+    ensures within { IfOk result (λ found. AreSections text.now found) }
 {
     if is_multipart(content) {
         let Some(boundary) = boundary(content) else {
             return Ok(Division::NoParts);
         };
-        let spans = part_spans(alloc, boundary, text, body_from(text, from))?;
-        if spans.is_empty() {
+        let sections = sections(alloc, boundary, text, body)?;
+        if sections.is_empty() {
             return Ok(Division::NoParts);
         }
-        return Ok(Division::Several(spans));
+        return Ok(Division::Several(sections));
     }
     if is_message(content) {
         return Ok(Division::One);

@@ -25,7 +25,10 @@ fn first_value<'a>(text: &'a [u8], fields: &[Field], name: &[u8]) -> Option<&'a 
     None
 }
 
-fn text_value(
+/// The unfolded value of the first field of a name, in any letter case.
+///
+/// The fields stand in the text as `head_fields::fields` gives them for it.
+pub fn field_text(
     alloc: Global,
     text: &[u8],
     fields: &[Field],
@@ -143,12 +146,12 @@ pub(crate) fn read_content(alloc: Global, text: &[u8], digest: bool) -> Result<C
         kind,
         subkind,
         params,
-        id: text_value(alloc, text, fields, b"Content-ID")?,
-        description: text_value(alloc, text, fields, b"Content-Description")?,
+        id: field_text(alloc, text, fields, b"Content-ID")?,
+        description: field_text(alloc, text, fields, b"Content-Description")?,
         encoding: encoding(alloc, text, fields)?,
-        md5: text_value(alloc, text, fields, b"Content-MD5")?,
+        md5: field_text(alloc, text, fields, b"Content-MD5")?,
         disposition: disposition(alloc, text, fields)?,
         language: language(alloc, text, fields)?,
-        location: text_value(alloc, text, fields, b"Content-Location")?,
+        location: field_text(alloc, text, fields, b"Content-Location")?,
     })
 }

@@ -11,8 +11,8 @@ returns c =
       encoding = subst (λ fs. HasEncoding (first_value (codes "Content-Transfer-Encoding") fs) c.in_ok-encoding.field-0) same c.in_ok-encoding.ensures;
       disposition = subst (λ fs. HasDisposition (first_value (codes "Content-Disposition") fs) c.in_ok-disposition.field-0) same c.in_ok-disposition.ensures;
       language = subst (λ fs. HasLanguages (first_value (codes "Content-Language") fs) c.in_ok-language.field-0) same c.in_ok-language.ensures;
-      id = c.in_ok-text_value.ensures ∙ ap (text_of (codes "Content-ID")) same;
-      description = c.in_ok-text_value-2.ensures ∙ ap (text_of (codes "Content-Description")) same;
-      md5 = c.in_ok-text_value-3.ensures ∙ ap (text_of (codes "Content-MD5")) same;
-      location = c.in_ok-text_value-4.ensures ∙ ap (text_of (codes "Content-Location")) same;
+      id = c.in_ok-field_text.ensures ∙ ap (text_of (codes "Content-ID")) same;
+      description = c.in_ok-field_text-2.ensures ∙ ap (text_of (codes "Content-Description")) same;
+      md5 = c.in_ok-field_text-3.ensures ∙ ap (text_of (codes "Content-MD5")) same;
+      location = c.in_ok-field_text-4.ensures ∙ ap (text_of (codes "Content-Location")) same;
     }
