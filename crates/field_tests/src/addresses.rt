@@ -1,85 +1,78 @@
 //! Field bodies and the addresses that they list.
+use crate::shown::count_text;
 use addr_list::{Address, addresses};
 use mail_fields::Bytes;
 use std::alloc::{AllocError, Global};
 use std::test::Fail;
+use test_tables::rows;
 
 // A body and its addresses: `name|route|local|host;` for a mailbox, where `-` is none, and `name{` and
 // `}` for the ends of a group. What is outside the grammar is `none`.
-const LISTS: [(&[u8], &[u8]); 58] = [
-    (b"", b""),
-    (b" \t ", b""),
-    (b",, ,", b""),
-    (b"ann@example.org", b"-|-|ann|example.org;"),
-    (b"Ann Lee <ann@example.org>", b"Ann Lee|-|ann|example.org;"),
-    (
-        b"bob@example.org, \"Lee, Cy\" <cy@example.org>",
-        b"-|-|bob|example.org;Lee, Cy|-|cy|example.org;",
-    ),
-    (b"<ann@example.org>", b"-|-|ann|example.org;"),
-    (b"ann", b"-|-|ann|;"),
-    (b"\"an n\"", b"-|-|an n|;"),
-    (b"a@b,,c@d,", b"-|-|a|b;-|-|c|d;"),
-    // groups
-    (
-        b"Friends: ann@example.org;",
-        b"Friends{-|-|ann|example.org;}",
-    ),
-    (b"undisclosed-recipients:;", b"undisclosed-recipients{}"),
-    (b"A B : , a@b ,; , c", b"A B{-|-|a|b;}-|-|c|;"),
-    (b"A: B: a@b;, c@d;", b"A{B{-|-|a|b;}-|-|c|d;}"),
-    (b"A:;;", b"none"),
-    (b"A: a@b", b"none"),
-    (b"a@b;", b"none"),
-    (b"A:; b@c", b"none"),
-    (b"a@b A:;", b"none"),
-    (b":;", b"none"),
-    // names
-    (b"John Q. Public <j@x>", b"John Q. Public|-|j|x;"),
-    (b"J.R.R. Tolkien <j@x>", b"J.R.R. Tolkien|-|j|x;"),
-    (b"\"A\"B.\"C\" <j@x>", b"A B. C|-|j|x;"),
-    (b"A  (c)\tB <j@x>", b"A B|-|j|x;"),
-    (b"\"\" <j@x>", b"|-|j|x;"),
-    (b"\"a\\\"b\\\\c\\d\" <j@x>", b"a\"b\\cd|-|j|x;"),
-    (
-        b"=?utf-8?q?J=C3=B6rg?= <j@x>",
-        b"=?utf-8?q?J=C3=B6rg?=|-|j|x;",
-    ),
-    (b"J\xc3\xb6rg <j@x>", b"J\xc3\xb6rg|-|j|x;"),
-    (b"a@b <j@x>", b"none"),
-    // routes
-    (b"<@a:b@c>", b"-|@a|b|c;"),
-    (b"N <@a , @ b.c(d):e@f>", b"N|@a,@b.c|e|f;"),
-    (b"<@a,b:c@d>", b"none"),
-    (b"<@a,,@b:c@d>", b"none"),
-    (b"<@a@b>", b"none"),
-    // local parts and hosts
-    (b"\"a\\ b\"@c", b"-|-|a b|c;"),
-    (b"a . b (c) .d@e. f", b"-|-|a.b.d|e.f;"),
-    (b".a..b.@.", b"-|-|.a..b.|.;"),
-    (b"a@[10.0.0.1]", b"-|-|a|[10.0.0.1];"),
-    (b"a@[x y\\] ", b"-|-|a|[x y\\];"),
-    (b"a@b@c", b"none"),
-    (b"Bob Smith", b"none"),
-    (b"a b@c", b"none"),
-    (b"a@b c", b"none"),
-    (b"\"a\".b@c", b"none"),
-    (b"a.\"b\"@c", b"none"),
-    (b"a@[b].c", b"none"),
-    (b"a@\"b\"", b"none"),
-    (b"@b", b"none"),
-    (b"a@", b"none"),
-    (b"<a>", b"none"),
-    (b"<>", b"none"),
-    (b"<a@b", b"none"),
-    (b"a@b>", b"none"),
-    // comments and strings
-    (b"(a(b\\)c)d)a(e)@(f)b(g)", b"-|-|a|b;"),
-    (b"a@b (c", b"none"),
-    (b"a@b )", b"none"),
-    (b"\"a@b", b"none"),
-    (b"a@b\r\n", b"none"),
-];
+const LISTS: &str = r#"
+\e => \e
+ \t \e => \e
+,, , => \e
+ann@example.org => -|-|ann|example.org;
+Ann Lee <ann@example.org> => Ann Lee|-|ann|example.org;
+bob@example.org, "Lee, Cy" <cy@example.org> => -|-|bob|example.org;Lee, Cy|-|cy|example.org;
+<ann@example.org> => -|-|ann|example.org;
+ann => -|-|ann|;
+"an n" => -|-|an n|;
+a@b,,c@d, => -|-|a|b;-|-|c|d;
+# groups
+Friends: ann@example.org; => Friends{-|-|ann|example.org;}
+undisclosed-recipients:; => undisclosed-recipients{}
+A B : , a@b ,; , c => A B{-|-|a|b;}-|-|c|;
+A: B: a@b;, c@d; => A{B{-|-|a|b;}-|-|c|d;}
+A:;; => none
+A: a@b => none
+a@b; => none
+A:; b@c => none
+a@b A:; => none
+:; => none
+# names
+John Q. Public <j@x> => John Q. Public|-|j|x;
+J.R.R. Tolkien <j@x> => J.R.R. Tolkien|-|j|x;
+"A"B."C" <j@x> => A B. C|-|j|x;
+A  (c)\tB <j@x> => A B|-|j|x;
+"" <j@x> => |-|j|x;
+"a\\"b\\\\c\\d" <j@x> => a"b\\cd|-|j|x;
+=?utf-8?q?J=C3=B6rg?= <j@x> => =?utf-8?q?J=C3=B6rg?=|-|j|x;
+J\xc3\xb6rg <j@x> => J\xc3\xb6rg|-|j|x;
+a@b <j@x> => none
+# routes
+<@a:b@c> => -|@a|b|c;
+N <@a , @ b.c(d):e@f> => N|@a,@b.c|e|f;
+<@a,b:c@d> => none
+<@a,,@b:c@d> => none
+<@a@b> => none
+# local parts and hosts
+"a\\ b"@c => -|-|a b|c;
+a . b (c) .d@e. f => -|-|a.b.d|e.f;
+.a..b.@. => -|-|.a..b.|.;
+a@[10.0.0.1] => -|-|a|[10.0.0.1];
+a@[x y\\] \e => -|-|a|[x y\\];
+a@b@c => none
+Bob Smith => none
+a b@c => none
+a@b c => none
+"a".b@c => none
+a."b"@c => none
+a@[b].c => none
+a@"b" => none
+@b => none
+a@ => none
+<a> => none
+<> => none
+<a@b => none
+a@b> => none
+# comments and strings
+(a(b\\)c)d)a(e)@(f)b(g) => -|-|a|b;
+a@b (c => none
+a@b ) => none
+"a@b => none
+a@b\r\n => none
+"#;
 
 fn show(shown: &mut Vec<u8>, part: &Option<Bytes>) -> Result<(), AllocError> {
     match part {
@@ -129,37 +122,33 @@ fn shown(alloc: Global, value: &[u8]) -> Result<Vec<u8>, AllocError> {
 
 #[test]
 fn addresses_of_field_bodies(rt: HostRuntime) -> Result<(), Fail> {
-    for (value, expected) in LISTS {
-        let found = shown(rt.alloc(), value)?;
-        assert_eq!(rt; found.as_slice(), expected, "in {value:?}");
+    for row in &rows(rt.alloc(), LISTS)? {
+        let found = shown(rt.alloc(), row.text.as_slice())?;
+        row.agrees(found.as_slice())?;
     }
     Ok(())
 }
 
-// The addresses of a body of so many texts in a row, or none.
-fn count(alloc: Global, parts: &[(&[u8], usize)]) -> Result<Option<usize>, AllocError> {
-    let mut value = Vec::new(alloc);
-    for (part, times) in parts {
-        for _ in 0..*times {
-            value.extend_from_slice(part)?;
-        }
-    }
-    let found = addresses(alloc, value.as_slice())?;
-    Ok(found.map(|list| list.len()))
-}
+// Long and deep bodies, and how many addresses they have.
+const LONG: &str = r#"
+\(10000:(\)\(10000:)\)a@b => 1
+\(10000:(\)\(9999:)\)a@b => none
+\(10000:g:\)\(10000:;\) => 20000
+\(10000:g:\)\(9999:;\) => none
+\(1048576:,\) => 0
+\(100000:a@b,\) => 100000
+\(524288:a \) => none
+\(1048576:<\) => none
+\(1048577:"\) => none
+\(1048576:[\) => none
+"#;
 
 #[test]
 fn long_and_deep_bodies_end(rt: HostRuntime) -> Result<(), Fail> {
-    let alloc = rt.alloc();
-    assert!(rt; count(alloc, &[(b"(", 10_000), (b")", 10_000), (b"a@b", 1)])? == Some(1));
-    assert!(rt; count(alloc, &[(b"(", 10_000), (b")", 9_999), (b"a@b", 1)])?.is_none());
-    assert!(rt; count(alloc, &[(b"g:", 10_000), (b";", 10_000)])? == Some(20_000));
-    assert!(rt; count(alloc, &[(b"g:", 10_000), (b";", 9_999)])?.is_none());
-    assert!(rt; count(alloc, &[(b",", 1 << 20)])? == Some(0));
-    assert!(rt; count(alloc, &[(b"a@b,", 100_000)])? == Some(100_000));
-    assert!(rt; count(alloc, &[(b"a ", 1 << 19)])?.is_none());
-    assert!(rt; count(alloc, &[(b"<", 1 << 20)])?.is_none());
-    assert!(rt; count(alloc, &[(b"\"", (1 << 20) + 1)])?.is_none());
-    assert!(rt; count(alloc, &[(b"[", 1 << 20)])?.is_none());
+    for row in &rows(rt.alloc(), LONG)? {
+        let found = addresses(rt.alloc(), row.text.as_slice())?;
+        let found = count_text(rt.alloc(), found.map(|list| list.len()))?;
+        row.agrees(found.as_bytes())?;
+    }
     Ok(())
 }

@@ -1,9 +1,12 @@
 //! Dates and numbers read, written and moved to UTC.
+use crate::shown::{day_text, number_text, stamp_text};
 use mail_fields::{
     Stamp, put_from_date, put_hex, put_imap_date, put_mix_date, put_octal, read_decimal,
     read_field_date, read_hex, read_imap_date, read_mix_date, read_octal, read_search_date,
-    stamp_of, to_utc,
+    split_at_space, stamp_of, to_utc,
 };
+use std::test::Fail;
+use test_tables::rows;
 
 // A stamp's day from 1-Jan-1970, its second of that day and its zone.
 type Parts = (i32, u32, i16);
@@ -12,31 +15,34 @@ fn parts(stamp: Stamp) -> Parts {
     (stamp.day, stamp.second, stamp.zone_minutes)
 }
 
-const IMAP_DATES: [(&[u8], Option<Parts>); 17] = [
-    (b" 2-Apr-2024 08:00:00 +0200", Some((19815, 28800, 120))),
-    (b"02-aPR-2024 08:00:00 +0200", Some((19815, 28800, 120))),
-    (b"17-Jul-1996 02:44:25 -0700", Some((9694, 9865, -420))),
-    (b" 2-Apr-2024 08:00:00 -0000", Some((19815, 28800, 0))),
-    (b"29-Feb-2000 00:00:00 +0000", Some((11016, 0, 0))),
-    (b"29-Feb-2024 00:00:00 +0000", Some((19782, 0, 0))),
-    (b" 1-Jan-0000 00:00:00 +2359", Some((-719528, 0, 1439))),
-    (b"31-Dec-9999 23:59:59 -2359", Some((2932896, 86399, -1439))),
-    (b"29-Feb-1900 00:00:00 +0000", None),
-    (b"31-Feb-2024 00:00:00 +0000", None),
-    (b" 0-Apr-2024 08:00:00 +0200", None),
-    (b"2-Apr-2024 08:00:00 +0200", None),
-    (b" 2-Apr-2024 08:00:00 +0200 ", None),
-    (b" 2-Apr-2024 24:00:00 +0200", None),
-    (b" 2-Apr-2024 08:00:00 +2400", None),
-    (b" 2-Apr-2024 08:00:00 +0060", None),
-    (b" 2-Apr-2024 08:00:00  0200", None),
-];
+// A date and its stamp.
+const IMAP_DATES: &str = r#"
+ 2-Apr-2024 08:00:00 +0200 => 19815 28800 120
+02-aPR-2024 08:00:00 +0200 => 19815 28800 120
+17-Jul-1996 02:44:25 -0700 => 9694 9865 -420
+ 2-Apr-2024 08:00:00 -0000 => 19815 28800 0
+29-Feb-2000 00:00:00 +0000 => 11016 0 0
+29-Feb-2024 00:00:00 +0000 => 19782 0 0
+ 1-Jan-0000 00:00:00 +2359 => -719528 0 1439
+31-Dec-9999 23:59:59 -2359 => 2932896 86399 -1439
+29-Feb-1900 00:00:00 +0000 => none
+31-Feb-2024 00:00:00 +0000 => none
+ 0-Apr-2024 08:00:00 +0200 => none
+2-Apr-2024 08:00:00 +0200 => none
+ 2-Apr-2024 08:00:00 +0200 \e => none
+ 2-Apr-2024 24:00:00 +0200 => none
+ 2-Apr-2024 08:00:00 +2400 => none
+ 2-Apr-2024 08:00:00 +0060 => none
+ 2-Apr-2024 08:00:00  0200 => none
+"#;
 
 #[test]
-fn an_imap_date_has_its_stamp(rt: HostRuntime) {
-    for (text, expected) in IMAP_DATES {
-        assert_eq!(rt; read_imap_date(text).map(parts), expected);
+fn an_imap_date_has_its_stamp(rt: HostRuntime) -> Result<(), Fail> {
+    for row in &rows(rt.alloc(), IMAP_DATES)? {
+        let found = stamp_text(rt.alloc(), read_imap_date(row.text.as_slice()))?;
+        row.agrees(found.as_bytes())?;
     }
+    Ok(())
 }
 
 // Texts that are written as they were read.
@@ -60,26 +66,27 @@ fn an_imap_date_is_written_as_it_was_read(rt: HostRuntime) {
     }
 }
 
-const MIX_DATES: [(&[u8], Option<Parts>); 6] = [
-    (b"20240402080000+0200", Some((19815, 28800, 120))),
-    (b"19961219163957-0800", Some((9849, 59997, -480))),
-    (b"00000101000000+0000", Some((-719528, 0, 0))),
-    (b"20240002080000+0200", None),
-    (b"20241302080000+0200", None),
-    (b"2024040208000+0200", None),
-];
+const MIX_DATES: &str = r#"
+20240402080000+0200 => 19815 28800 120
+19961219163957-0800 => 9849 59997 -480
+00000101000000+0000 => -719528 0 0
+20240002080000+0200 => none
+20241302080000+0200 => none
+2024040208000+0200 => none
+"#;
 
 #[test]
-fn a_mix_date_has_its_stamp(rt: HostRuntime) {
-    for (text, expected) in MIX_DATES {
-        let found = read_mix_date(text);
-        assert_eq!(rt; found.map(parts), expected);
+fn a_mix_date_has_its_stamp(rt: HostRuntime) -> Result<(), Fail> {
+    for row in &rows(rt.alloc(), MIX_DATES)? {
+        let found = read_mix_date(row.text.as_slice());
+        row.agrees(stamp_text(rt.alloc(), found)?.as_bytes())?;
         if let Some(stamp) = found {
             let mut again = [0; 19];
             put_mix_date(&mut again, 0, stamp);
-            assert!(rt; again.as_slice() == text);
+            assert!(rt; again.as_slice() == row.text.as_slice());
         }
     }
+    Ok(())
 }
 
 // Moments, with the from date of each.
@@ -104,75 +111,100 @@ fn a_moment_has_its_stamp_and_its_from_date(rt: HostRuntime) {
 }
 
 // A date of IMAP, and the same instant in UTC.
-const INSTANTS: [(&[u8], Parts); 6] = [
-    (b" 2-Apr-2024 08:00:00 +0200", (19815, 21600, 0)),
-    (b"19-Dec-1996 16:39:57 -0800", (9850, 2397, 0)),
-    (b" 1-Jan-2024 00:30:00 +0130", (19722, 82800, 0)),
-    (b"31-Dec-9999 23:59:59 -2359", (2932896, 86399, 0)),
-    (b" 1-Jan-0000 00:00:00 +2359", (-719528, 0, 0)),
-    (b" 1-Jan-0000 23:59:00 +2359", (-719528, 0, 0)),
-];
+const INSTANTS: &str = r#"
+ 2-Apr-2024 08:00:00 +0200 => 19815 21600 0
+19-Dec-1996 16:39:57 -0800 => 9850 2397 0
+ 1-Jan-2024 00:30:00 +0130 => 19722 82800 0
+31-Dec-9999 23:59:59 -2359 => 2932896 86399 0
+ 1-Jan-0000 00:00:00 +2359 => -719528 0 0
+ 1-Jan-0000 23:59:00 +2359 => -719528 0 0
+"#;
 
 #[test]
-fn an_instant_is_moved_to_utc(rt: HostRuntime) {
-    for (text, expected) in INSTANTS {
-        let found = read_imap_date(text).map(|stamp| parts(to_utc(stamp)));
-        assert_eq!(rt; found, Some(expected));
+fn an_instant_is_moved_to_utc(rt: HostRuntime) -> Result<(), Fail> {
+    for row in &rows(rt.alloc(), INSTANTS)? {
+        let found = read_imap_date(row.text.as_slice()).map(|stamp| to_utc(stamp));
+        row.agrees(stamp_text(rt.alloc(), found)?.as_bytes())?;
+    }
+    Ok(())
+}
+
+// A date and its day.
+const SEARCH_DATES: &str = r#"
+1-Feb-1994 => 8797
+01-feb-1994 => 8797
+29-Feb-2000 => 11016
+29-Feb-1900 => none
+ 1-Feb-1994 => none
+0-Feb-1994 => none
+1-Feb-94 => none
+001-Feb-1994 => none
+"#;
+
+#[test]
+fn a_search_date_has_its_day(rt: HostRuntime) -> Result<(), Fail> {
+    for row in &rows(rt.alloc(), SEARCH_DATES)? {
+        let found = day_text(rt.alloc(), read_search_date(row.text.as_slice()))?;
+        row.agrees(found.as_bytes())?;
+    }
+    Ok(())
+}
+
+const FIELD_DATES: &str = r#"
+ Fri, 21 Nov 1997 09:55:06 -0600 => 10186
+Tue, 1 Jul 2003 10:52:37 +0200 => 12234
+fri,5  nOV   49 00:00 => 29163
+1 Jan 50 => -7305
+29 Feb 2024x => 19782
+29 Feb 1900 => none
+Fry, 21 Nov 1997 => none
+021 Nov 1997 => none
+21Nov 1997 => none
+21 Nov1997 => none
+21 Nov 19971 => none
+21 Nov \e => none
+"#;
+
+#[test]
+fn a_field_date_has_its_day(rt: HostRuntime) -> Result<(), Fail> {
+    for row in &rows(rt.alloc(), FIELD_DATES)? {
+        let found = day_text(rt.alloc(), read_field_date(row.text.as_slice()))?;
+        row.agrees(found.as_bytes())?;
+    }
+    Ok(())
+}
+
+// The base of a number with a letter for each digit that is read, its text, and the number: `o` is base 8, `x` base 16, and `d` base
+// 10, whose number is the whole text.
+const NUMBERS: &str = r#"
+ooo 7558 => 493
+oooo 7558 => none
+ooo 75 => none
+xxxxxxxx DeadBeef => 3735928559
+xxxxxxxxxxxxxxxx ffffffffffffffff => 18446744073709551615
+xxxxxxxx deadbeeg => none
+d 9999999999 => 9999999999
+d 00000000001 => none
+d \e => none
+d 12a => none
+"#;
+
+fn number(base: &[u8], text: &[u8]) -> Option<u64> {
+    match base {
+        [b'o', ..] if base.len() <= 16 => read_octal(text, base.len()),
+        [b'x', ..] if base.len() <= 16 => read_hex(text, base.len()),
+        _ => read_decimal(text),
     }
 }
 
-const SEARCH_DATES: [(&[u8], Option<i32>); 8] = [
-    (b"1-Feb-1994", Some(8797)),
-    (b"01-feb-1994", Some(8797)),
-    (b"29-Feb-2000", Some(11016)),
-    (b"29-Feb-1900", None),
-    (b" 1-Feb-1994", None),
-    (b"0-Feb-1994", None),
-    (b"1-Feb-94", None),
-    (b"001-Feb-1994", None),
-];
-
 #[test]
-fn a_search_date_has_its_day(rt: HostRuntime) {
-    for (text, expected) in SEARCH_DATES {
-        assert_eq!(rt; read_search_date(text), expected);
+fn numbers_are_read_in_their_base(rt: HostRuntime) -> Result<(), Fail> {
+    for row in &rows(rt.alloc(), NUMBERS)? {
+        let (base, text) = split_at_space(row.text.as_slice());
+        let found = number_text(rt.alloc(), number(base, text))?;
+        row.agrees(found.as_bytes())?;
     }
-}
-
-const FIELD_DATES: [(&[u8], Option<i32>); 12] = [
-    (b" Fri, 21 Nov 1997 09:55:06 -0600", Some(10186)),
-    (b"Tue, 1 Jul 2003 10:52:37 +0200", Some(12234)),
-    (b"fri,5  nOV   49 00:00", Some(29163)),
-    (b"1 Jan 50", Some(-7305)),
-    (b"29 Feb 2024x", Some(19782)),
-    (b"29 Feb 1900", None),
-    (b"Fry, 21 Nov 1997", None),
-    (b"021 Nov 1997", None),
-    (b"21Nov 1997", None),
-    (b"21 Nov1997", None),
-    (b"21 Nov 19971", None),
-    (b"21 Nov ", None),
-];
-
-#[test]
-fn a_field_date_has_its_day(rt: HostRuntime) {
-    for (text, expected) in FIELD_DATES {
-        assert_eq!(rt; read_field_date(text), expected);
-    }
-}
-
-#[test]
-fn numbers_are_read_in_their_base(rt: HostRuntime) {
-    assert_eq!(rt; read_octal(b"7558", 3), Some(493));
-    assert_eq!(rt; read_octal(b"7558", 4), None);
-    assert_eq!(rt; read_octal(b"75", 3), None);
-    assert_eq!(rt; read_hex(b"DeadBeef", 8), Some(3735928559));
-    assert_eq!(rt; read_hex(b"ffffffffffffffff", 16), Some(u64::MAX));
-    assert_eq!(rt; read_hex(b"deadbeeg", 8), None);
-    assert_eq!(rt; read_decimal(b"9999999999"), Some(9999999999));
-    assert_eq!(rt; read_decimal(b"00000000001"), None);
-    assert_eq!(rt; read_decimal(b""), None);
-    assert_eq!(rt; read_decimal(b"12a"), None);
+    Ok(())
 }
 
 #[test]

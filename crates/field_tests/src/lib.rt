@@ -1,6 +1,7 @@
-//! Runs of the crates on texts, dates and fields, as tables.
+//! Runs of the crates on texts, dates, fields and commands, as tables.
 #![tactic(auto)]
 
+#[cfg(test)]
 mod addresses;
 #[cfg(test)]
 mod changed_texts;
@@ -13,8 +14,14 @@ mod from_dates;
 #[cfg(test)]
 mod header_fields;
 #[cfg(test)]
+mod message_parts;
+#[cfg(test)]
 mod mix_texts;
 #[cfg(test)]
 mod octal_heads;
 #[cfg(test)]
+mod shown;
+#[cfg(test)]
 mod status_fields;
+#[cfg(test)]
+mod structures;

@@ -1,10 +1,12 @@
 //! The texts of a mix mailbox, read and written.
 use crate::changed_texts::{exchanged, with, without};
+use crate::shown::count_text;
 use mail_fields::put_hex;
 use mix_files::{Status, put_meta, put_status, read_meta, read_status};
 use mix_index::{put_index, read_index};
 use std::alloc::{AllocError, Global};
 use std::test::Fail;
+use test_tables::rows;
 
 const INDEX: &[u8] =
     b":00000001:20240402080000+0200:0000000e:00000001:00000000:0000002d:0000000e:\r\n";
@@ -36,51 +38,28 @@ fn an_index_has_its_entries(rt: HostRuntime) -> Result<(), Fail> {
 }
 
 // A text, and how many entries it has.
-const INDEXES: [(&[u8], Option<usize>); 9] = [
-    (b"", Some(0)),
-    // digits in either letter case
-    (
-        b":0000000A:20240402080000+0200:0000000E:00000001:00000000:0000002D:0000000e:\r\n",
-        Some(1),
-    ),
-    (
-        b":00000001:20240402080000+0200:0000000e:00000001:00000000:0000002d:0000000e:\r\n:00000002:20240402080000+0200:0000000e:00000001:0000003b:0000002d:00000000:\r\n",
-        Some(2),
-    ),
-    // a UID again, and a UID of 0
-    (
-        b":00000001:20240402080000+0200:0000000e:00000001:00000000:0000002d:0000000e:\r\n:00000001:20240402080000+0200:0000000e:00000001:0000003b:0000002d:00000000:\r\n",
-        None,
-    ),
-    (
-        b":00000000:20240402080000+0200:0000000e:00000001:00000000:0000002d:0000000e:\r\n",
-        None,
-    ),
-    // heads of 44 and 46 bytes
-    (
-        b":00000001:20240402080000+0200:0000000e:00000001:00000000:0000002c:0000000e:\r\n",
-        None,
-    ),
-    (
-        b":00000001:20240402080000+0200:0000000e:00000001:00000000:0000002e:0000000e:\r\n",
-        None,
-    ),
-    // no day, and a line that LF alone ends
-    (
-        b":00000001:20240431080000+0200:0000000e:00000001:00000000:0000002d:0000000e:\r\n",
-        None,
-    ),
-    (
-        b":00000001:20240402080000+0200:0000000e:00000001:00000000:0000002d:0000000e:\n",
-        None,
-    ),
-];
+const INDEXES: &str = r#"
+\e => 0
+# digits in either letter case
+:0000000A:20240402080000+0200:0000000E:00000001:00000000:0000002D:0000000e:\r\n => 1
+:00000001:20240402080000+0200:0000000e:00000001:00000000:0000002d:0000000e:\r\n:00000002:20240402080000+0200:0000000e:00000001:0000003b:0000002d:00000000:\r\n => 2
+# a UID again, and a UID of 0
+:00000001:20240402080000+0200:0000000e:00000001:00000000:0000002d:0000000e:\r\n:00000001:20240402080000+0200:0000000e:00000001:0000003b:0000002d:00000000:\r\n => none
+:00000000:20240402080000+0200:0000000e:00000001:00000000:0000002d:0000000e:\r\n => none
+# heads of 44 and 46 bytes
+:00000001:20240402080000+0200:0000000e:00000001:00000000:0000002c:0000000e:\r\n => none
+:00000001:20240402080000+0200:0000000e:00000001:00000000:0000002e:0000000e:\r\n => none
+# no day, and a line that LF alone ends
+:00000001:20240431080000+0200:0000000e:00000001:00000000:0000002d:0000000e:\r\n => none
+:00000001:20240402080000+0200:0000000e:00000001:00000000:0000002d:0000000e:\n => none
+"#;
 
 #[test]
 fn an_index_has_entries_of_rising_uids_alone(rt: HostRuntime) -> Result<(), Fail> {
-    for (text, expected) in INDEXES {
-        let found = read_index(rt.alloc(), text)?;
-        assert_eq!(rt; found.map(|entries| entries.len()), expected);
+    for row in &rows(rt.alloc(), INDEXES)? {
+        let found = read_index(rt.alloc(), row.text.as_slice())?;
+        let found = count_text(rt.alloc(), found.map(|entries| entries.len()))?;
+        row.agrees(found.as_bytes())?;
     }
     Ok(())
 }
@@ -137,26 +116,29 @@ fn count(alloc: Global, text: &[u8]) -> Result<Result<usize, u32>, AllocError> {
     }
 }
 
-const STATUSES: [(&[u8], Result<usize, u32>); 7] = [
-    (b"", Ok(0)),
-    (b":0000000A:00000000:0000:00000000:\r\n", Ok(1)),
-    (b":00000000:00000000:0000:00000000:\r\n", Err(0)),
-    (b":00000001:00000001:0001:00000001:\n", Err(0)),
-    (
-        b":00000002:00000000:0000:00000000:\r\n:00000002:00000000:0000:00000000:\r\n",
-        Err(1),
-    ),
-    (
-        b":00000002:00000000:0000:00000000:\r\n:00000001:00000000:0000:00000000:\r\n",
-        Err(1),
-    ),
-    (b":00000002:00000000:0000:00000000:\r\n\r\n", Err(1)),
-];
+// A status, and how many records it has, or stand before the first that is none.
+const STATUSES: &str = r#"
+\e => ok 0
+:0000000A:00000000:0000:00000000:\r\n => ok 1
+:00000000:00000000:0000:00000000:\r\n => err 0
+:00000001:00000001:0001:00000001:\n => err 0
+:00000002:00000000:0000:00000000:\r\n:00000002:00000000:0000:00000000:\r\n => err 1
+:00000002:00000000:0000:00000000:\r\n:00000001:00000000:0000:00000000:\r\n => err 1
+:00000002:00000000:0000:00000000:\r\n\r\n => err 1
+"#;
+
+fn shown_count(alloc: Global, text: &[u8]) -> Result<String, AllocError> {
+    match count(alloc, text)? {
+        Ok(records) => format!(in alloc; "ok {records}"),
+        Err(before) => format!(in alloc; "err {before}"),
+    }
+}
 
 #[test]
 fn a_status_has_records_of_rising_uids_alone(rt: HostRuntime) -> Result<(), Fail> {
-    for (text, expected) in STATUSES {
-        assert_eq!(rt; count(rt.alloc(), text)?, expected);
+    for row in &rows(rt.alloc(), STATUSES)? {
+        let found = shown_count(rt.alloc(), row.text.as_slice())?;
+        row.agrees(found.as_bytes())?;
     }
     Ok(())
 }
@@ -224,98 +206,47 @@ fn metadata_has_its_numbers_and_names(rt: HostRuntime) -> Result<(), Fail> {
     Ok(())
 }
 
-// A text, and how it is written again.
-const METAS: [(&[u8], Option<&[u8]>); 18] = [
-    (META, Some(META)),
-    // no names, and three
-    (
-        b"S00000000\r\nV00000001\r\nL00000000\r\nN00000001\r\nK\r\n",
-        Some(b"S00000000\r\nV00000001\r\nL00000000\r\nN00000001\r\nK\r\n"),
-    ),
-    (
-        b"S00000000\r\nV00000001\r\nL00000000\r\nN00000001\r\nKa $b c\r\n",
-        Some(b"S00000000\r\nV00000001\r\nL00000000\r\nN00000001\r\nKa $b c\r\n"),
-    ),
-    // digits in either letter case, and further lines anywhere
-    (
-        b"X\r\nSffffFFFF\r\ns00000002\r\nV00000001\r\nQ\ra\n\r\nL00000000\r\nN00000001\r\nz:\r\nK\r\nY0\r\n",
-        Some(b"Sffffffff\r\nV00000001\r\nL00000000\r\nN00000001\r\nK\r\n"),
-    ),
-    // a validity of 0
-    (
-        b"S00000001\r\nV00000000\r\nL00000001\r\nN00000001\r\nK\r\n",
-        None,
-    ),
-    // another order, a line twice, and one that isn't there
-    (
-        b"V00000001\r\nS00000001\r\nL00000001\r\nN00000001\r\nK\r\n",
-        None,
-    ),
-    (
-        b"S00000001\r\nS00000001\r\nV00000001\r\nL00000001\r\nN00000001\r\nK\r\n",
-        None,
-    ),
-    (
-        b"S00000001\r\nV00000001\r\nL00000001\r\nN00000001\r\nK\r\nS00000001\r\n",
-        None,
-    ),
-    (
-        b"S00000001\r\nV00000001\r\nL00000001\r\nN00000001\r\n",
-        None,
-    ),
-    // an empty line, a line that begins with no letter, and one without its end
-    (
-        b"S00000001\r\nV00000001\r\nL00000001\r\nN00000001\r\nK\r\n\r\n",
-        None,
-    ),
-    (
-        b"S00000001\r\n1\r\nV00000001\r\nL00000001\r\nN00000001\r\nK\r\n",
-        None,
-    ),
-    (
-        b"S00000001\r\nV00000001\r\nL00000001\r\nN00000001\r\nK\r\nX",
-        None,
-    ),
-    // spaces that stand between no names, a name again in another case, and no keyword
-    (
-        b"S00000001\r\nV00000001\r\nL00000001\r\nN00000001\r\nKa  b\r\n",
-        None,
-    ),
-    (
-        b"S00000001\r\nV00000001\r\nL00000001\r\nN00000001\r\nKa \r\n",
-        None,
-    ),
-    (
-        b"S00000001\r\nV00000001\r\nL00000001\r\nN00000001\r\nK a\r\n",
-        None,
-    ),
-    (
-        b"S00000001\r\nV00000001\r\nL00000001\r\nN00000001\r\nKwork Work\r\n",
-        None,
-    ),
-    (
-        b"S00000001\r\nV00000001\r\nL00000001\r\nN00000001\r\nKa(b\r\n",
-        None,
-    ),
-    (b"", None),
-];
+// Metadata, and how it is written again.
+const METAS: &str = r#"
+S00000001\r\nV000003e9\r\nL00000001\r\nN00000001\r\nKWork\r\n => S00000001\r\nV000003e9\r\nL00000001\r\nN00000001\r\nKWork\r\n
+# no names, and three
+S00000000\r\nV00000001\r\nL00000000\r\nN00000001\r\nK\r\n => S00000000\r\nV00000001\r\nL00000000\r\nN00000001\r\nK\r\n
+S00000000\r\nV00000001\r\nL00000000\r\nN00000001\r\nKa $b c\r\n => S00000000\r\nV00000001\r\nL00000000\r\nN00000001\r\nKa $b c\r\n
+# digits in either letter case, and further lines anywhere
+X\r\nSffffFFFF\r\ns00000002\r\nV00000001\r\nQ\ra\n\r\nL00000000\r\nN00000001\r\nz:\r\nK\r\nY0\r\n => Sffffffff\r\nV00000001\r\nL00000000\r\nN00000001\r\nK\r\n
+# a validity of 0
+S00000001\r\nV00000000\r\nL00000001\r\nN00000001\r\nK\r\n => none
+# another order, a line twice, and one that isn't there
+V00000001\r\nS00000001\r\nL00000001\r\nN00000001\r\nK\r\n => none
+S00000001\r\nS00000001\r\nV00000001\r\nL00000001\r\nN00000001\r\nK\r\n => none
+S00000001\r\nV00000001\r\nL00000001\r\nN00000001\r\nK\r\nS00000001\r\n => none
+S00000001\r\nV00000001\r\nL00000001\r\nN00000001\r\n => none
+# an empty line, a line that begins with no letter, and one without its end
+S00000001\r\nV00000001\r\nL00000001\r\nN00000001\r\nK\r\n\r\n => none
+S00000001\r\n1\r\nV00000001\r\nL00000001\r\nN00000001\r\nK\r\n => none
+S00000001\r\nV00000001\r\nL00000001\r\nN00000001\r\nK\r\nX => none
+# spaces that stand between no names, a name again in another case, and no keyword
+S00000001\r\nV00000001\r\nL00000001\r\nN00000001\r\nKa  b\r\n => none
+S00000001\r\nV00000001\r\nL00000001\r\nN00000001\r\nKa \r\n => none
+S00000001\r\nV00000001\r\nL00000001\r\nN00000001\r\nK a\r\n => none
+S00000001\r\nV00000001\r\nL00000001\r\nN00000001\r\nKwork Work\r\n => none
+S00000001\r\nV00000001\r\nL00000001\r\nN00000001\r\nKa(b\r\n => none
+\e => none
+"#;
 
 // Metadata as it is written again.
-fn written(alloc: Global, text: &[u8]) -> Result<Option<Vec<u8>>, AllocError> {
+fn written(alloc: Global, text: &[u8]) -> Result<Vec<u8>, AllocError> {
     match read_meta(alloc, text)? {
-        Some(meta) => Ok(Some(put_meta(alloc, &meta)?)),
-        None => Ok(None),
+        Some(meta) => put_meta(alloc, &meta),
+        None => Vec::from_slice(alloc, b"none"),
     }
 }
 
 #[test]
 fn metadata_is_written_without_further_lines(rt: HostRuntime) -> Result<(), Fail> {
-    for (text, expected) in METAS {
-        let again = written(rt.alloc(), text)?;
-        assert_eq!(rt; again.is_some(), expected.is_some());
-        if let (Some(again), Some(expected)) = (again, expected) {
-            assert!(rt; again.as_slice() == expected);
-        }
+    for row in &rows(rt.alloc(), METAS)? {
+        let again = written(rt.alloc(), row.text.as_slice())?;
+        row.agrees(again.as_slice())?;
     }
     Ok(())
 }

@@ -1,61 +1,48 @@
 //! Heads of mtx and tenex records, read and written.
 use crate::changed_texts::{exchanged, with, without};
 use octal_head::{Octal, put_octal_head, read_octal_head};
+use std::alloc::{AllocError, Global};
 use std::test::Fail;
+use test_tables::rows;
 
-// A size, the bits of keywords and those of flags.
-type Parts = (u64, u32, u8);
+// A line with its size, the bits of keywords and those of flags, or none.
+const HEADS: &str = r#"
+ 2-Apr-2024 08:00:00 +0200,14;000000000001 => 14 0 1
+17-Jul-1996 02:44:25 -0700,1024;000000000113 => 1024 1 11
+17-Jul-1996 02:44:25 -0700,0;777777777777 => 0 1073741823 63
+17-Jul-1996 02:44:25 -0700,9999999999;100000000000 => 9999999999 134217728 0
+# read, and written in another way
+02-aPR-2024 08:00:00 -0000,0014;000000000040 => 14 0 32
+17-Jul-1996 02:44:25 -0700,0000000000;000000000000 => 0 0 0
+# sizes of no digit, of eleven, and of another byte
+17-Jul-1996 02:44:25 -0700,;000000000000 => none
+17-Jul-1996 02:44:25 -0700,00000000001;000000000000 => none
+17-Jul-1996 02:44:25 -0700,-1;000000000000 => none
+17-Jul-1996 02:44:25 -0700,1f;000000000000 => none
+# bits that are no 12 octal digits
+17-Jul-1996 02:44:25 -0700,1024;00000000000 => none
+17-Jul-1996 02:44:25 -0700,1024;0000000000000 => none
+17-Jul-1996 02:44:25 -0700,1024;000000000008 => none
+17-Jul-1996 02:44:25 -0700,1024;00000001-001 => none
+17-Jul-1996 02:44:25 -0700,1024;000000000001\r\n => none
+31-Feb-2024 02:44:25 -0700,1024;000000000001 => none
+\e => none
+"#;
 
-fn parts(head: Octal) -> Parts {
-    (head.size, head.words, head.bits)
+fn shown(alloc: Global, found: Option<Octal>) -> Result<String, AllocError> {
+    match found {
+        Some(head) => format!(in alloc; "{} {} {}", head.size, head.words, head.bits),
+        None => String::from_str(alloc, "none"),
+    }
 }
 
-const HEADS: [(&[u8], Option<Parts>); 17] = [
-    (
-        b" 2-Apr-2024 08:00:00 +0200,14;000000000001",
-        Some((14, 0, 1)),
-    ),
-    (
-        b"17-Jul-1996 02:44:25 -0700,1024;000000000113",
-        Some((1024, 1, 11)),
-    ),
-    (
-        b"17-Jul-1996 02:44:25 -0700,0;777777777777",
-        Some((0, 1073741823, 63)),
-    ),
-    (
-        b"17-Jul-1996 02:44:25 -0700,9999999999;100000000000",
-        Some((9999999999, 134217728, 0)),
-    ),
-    // read, and written in another way
-    (
-        b"02-aPR-2024 08:00:00 -0000,0014;000000000040",
-        Some((14, 0, 32)),
-    ),
-    (
-        b"17-Jul-1996 02:44:25 -0700,0000000000;000000000000",
-        Some((0, 0, 0)),
-    ),
-    // sizes of no digit, of eleven, and of another byte
-    (b"17-Jul-1996 02:44:25 -0700,;000000000000", None),
-    (b"17-Jul-1996 02:44:25 -0700,00000000001;000000000000", None),
-    (b"17-Jul-1996 02:44:25 -0700,-1;000000000000", None),
-    (b"17-Jul-1996 02:44:25 -0700,1f;000000000000", None),
-    // bits that are no 12 octal digits
-    (b"17-Jul-1996 02:44:25 -0700,1024;00000000000", None),
-    (b"17-Jul-1996 02:44:25 -0700,1024;0000000000000", None),
-    (b"17-Jul-1996 02:44:25 -0700,1024;000000000008", None),
-    (b"17-Jul-1996 02:44:25 -0700,1024;00000001-001", None),
-    (b"17-Jul-1996 02:44:25 -0700,1024;000000000001\r\n", None),
-    (b"31-Feb-2024 02:44:25 -0700,1024;000000000001", None),
-    (b"", None),
-];
-
 #[test]
-fn a_head_has_its_parts(rt: HostRuntime) {
-    for (line, expected) in HEADS {
-        assert_eq!(rt; read_octal_head(line).map(parts), expected);
+fn a_head_has_its_parts(rt: HostRuntime) -> Result<(), Fail> {
+    for row in &rows(rt.alloc(), HEADS)? {
+        let found = shown(rt.alloc(), read_octal_head(row.text.as_slice()))?;
+        row.agrees(found.as_bytes())?;
     }
+    Ok(())
 }
 
 #[test]
@@ -65,27 +52,29 @@ fn a_head_has_the_stamp_of_its_date(rt: HostRuntime) {
     assert_eq!(rt; stamp, Some((19815, 28800, 120)));
 }
 
-// Lines that are written as they were read.
-const WRITTEN: [&[u8]; 4] = [
-    b" 2-Apr-2024 08:00:00 +0200,14;000000000001",
-    b"17-Jul-1996 02:44:25 -0700,1024;000000000113",
-    b"31-Dec-9999 23:59:59 -2359,9999999999;777777777777",
-    b" 1-Jan-0000 00:00:00 +0000,0;000000000000",
-];
+// A line, and what is written of it, ended by LF and by CRLF.
+const WRITTEN: &str = r#"
+ 2-Apr-2024 08:00:00 +0200,14;000000000001 =>  2-Apr-2024 08:00:00 +0200,14;000000000001\n |  2-Apr-2024 08:00:00 +0200,14;000000000001\r\n
+17-Jul-1996 02:44:25 -0700,1024;000000000113 => 17-Jul-1996 02:44:25 -0700,1024;000000000113\n | 17-Jul-1996 02:44:25 -0700,1024;000000000113\r\n
+31-Dec-9999 23:59:59 -2359,9999999999;777777777777 => 31-Dec-9999 23:59:59 -2359,9999999999;777777777777\n | 31-Dec-9999 23:59:59 -2359,9999999999;777777777777\r\n
+ 1-Jan-0000 00:00:00 +0000,0;000000000000 =>  1-Jan-0000 00:00:00 +0000,0;000000000000\n |  1-Jan-0000 00:00:00 +0000,0;000000000000\r\n
+"#;
+
+fn written(alloc: Global, line: &[u8]) -> Result<Vec<u8>, AllocError> {
+    let Some(head) = read_octal_head(line) else {
+        return Vec::from_slice(alloc, b"none");
+    };
+    let mut shown = put_octal_head(alloc, &head, false)?;
+    shown.extend_from_slice(b" | ")?;
+    shown.extend_from_slice(put_octal_head(alloc, &head, true)?.as_slice())?;
+    Ok(shown)
+}
 
 #[test]
 fn a_head_is_written_as_it_was_read(rt: HostRuntime) -> Result<(), Fail> {
-    for expected in WRITTEN {
-        if let Some(head) = read_octal_head(expected) {
-            let mut line = Vec::from_slice(rt.alloc(), expected)?;
-            line.extend_from_slice(b"\n")?;
-            assert!(rt; put_octal_head(rt.alloc(), &head, false)?.as_slice() == line.as_slice());
-            line.truncate(expected.len());
-            line.extend_from_slice(b"\r\n")?;
-            assert!(rt; put_octal_head(rt.alloc(), &head, true)?.as_slice() == line.as_slice());
-        } else {
-            assert!(rt; false);
-        }
+    for row in &rows(rt.alloc(), WRITTEN)? {
+        let found = written(rt.alloc(), row.text.as_slice())?;
+        row.agrees(found.as_slice())?;
     }
     Ok(())
 }
