@@ -2,6 +2,7 @@ pub mod Dates
 pub mod Flags
 pub mod InPlace
 pub mod Items
+pub mod Laws
 pub mod Numbers
 pub mod Readings
 pub mod Reasons

@@ -30,7 +30,8 @@ pub fn begins(byte: u8, bytes: &[u8]) -> bool
 
 /// What stands behind a byte that must stand at the front.
 pub fn byte_at(byte: u8, bytes: &[u8]) -> Result<&[u8], Refused>
-    ensures { Gives (λ rest. rest.now) result (byte_at byte bytes.now) }
+    ensures value { Gives (λ rest. rest.now) result (byte_at byte bytes.now) }
+    ensures shorter { IfOk result (λ rest. length rest.now < length bytes.now) }
 {
     if begins(byte, bytes) {
         Ok(&bytes[1..])
