@@ -1,0 +1,4 @@
+mod Examples
+pub mod Feeds
+pub mod Limits
+pub mod Sound

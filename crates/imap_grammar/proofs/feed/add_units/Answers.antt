@@ -1,0 +1,8 @@
+use Rattle.std.specs.Vec.Iter.{into_iter_items}
+use Rattle.imap_grammar.proofs.Feeds.{further}
+use Rattle.imap_grammar.proofs.feed.add_units.Goals as goal
+
+pub loop-raw-preserved : goal.loop-raw-preserved
+loop-raw-preserved c =
+    further c.in-Some.raw c.in_ok-unit_of.field-0 c.args.raw_units.items (into_iter_items c.loop-raw.raw-iterator) (into_iter_items c.next.new.self) c.args.units.now.items c.loop-raw.units.items
+    c.push.new.self.items c.loop-raw.invariant c.in-Some.ensures.steps.0 c.in_ok-unit_of.ensures c.in_ok-push.ensures.items
