@@ -1,0 +1,606 @@
+//! Commands of a client, what they mean and the first reason against those that are bad.
+use crate::shown_commands::pieces_text;
+use std::alloc::{AllocError, Global};
+use std::test::Fail;
+use test_tables::rows;
+
+/// Commands and their units, as `shown_commands` shows them; each stream has a CRLF more at its end.
+pub const COMMANDS: &str = r#"
+# each command in its plainest form and in its oddest
+a CAPABILITY => a Capability
+!$&',-./09:;<=>?@AZ[^_`az|}~# cApAbIlItY => !$&',-./09:;<=>?@AZ[^_`az|}~# Capability
+a NOOP => a Noop
+NOOP noop => NOOP Noop
+a CHECK => a Check
+{ cHECK => Bad * 1
+} cHECK => } Check
+a CLOSE => a Close
+1.2 Close => 1.2 Close
+a EXPUNGE => a Expunge
+a eXPUNGE => a Expunge
+a LOGOUT => a Logout
+a logouT => a Logout
+a STARTTLS => a Password "STARTTLS"
+a sTARTtls (" => a Password "STARTTLS"
+a LOGIN u p => a Password "LOGIN"
+a login(x => a Password "LOGIN"
+a Login {1}\r\nu {1}\r\np => Announce; Announce; a Password "LOGIN"
+a AUTHENTICATE PLAIN => a Password "AUTHENTICATE"
+a Authenticate \x80\\"\r\t => a Password "AUTHENTICATE"
+a SELECT INBOX => a Select "INBOX"
+a select {5}\r\nInBox => Announce; a Select "InBox"
+a EXAMINE x => a Examine "x"
+a eXAMINE "" => a Examine ""
+a CREATE x => a Create "x"
+a Create ]] => a Create "]]"
+a DELETE x => a Delete "x"
+a dELETE {0}\r\n => Announce; a Delete ""
+a SUBSCRIBE x => a Subscribe "x"
+a subscribe "a b" => a Subscribe "a b"
+a UNSUBSCRIBE x => a Unsubscribe "x"
+a unsubscribe "(){%*]+" => a Unsubscribe "(){%*]+"
+a RENAME x y => a Rename "x" "y"
+a rename {3}\r\na b "" => Announce; a Rename "a b" ""
+a LIST x y => a List "x" "y"
+a list "" %*] => a List "" "%*]"
+a LSUB x y => a Lsub "x" "y"
+a lsub {0}\r\n {1}\r\n* => Announce; Announce; a Lsub "" "*"
+a STATUS x (MESSAGES) => a Status "x" [Messages]
+a status "" (unseen uidvalidity UidNext RECENT messages messages) => a Status "" [Unseen,UidValidity,UidNext,Recent,Messages,Messages]
+a APPEND x {3}\r\nabc => Announce; a Append "x" () "abc"
+a append {1}\r\nx (\\sEEN \\Answered Work \\FLAGGED \\Deleted \\Draft) " 1-apr-2024 12:34:56 -0130" {0}\r\n => Announce; Announce; a Append "x" (Seen,Answered,Flagged,Deleted,Draft,Work,) 19814 45296 -90 ""
+a APPEND x "01-Jan-1970 00:00:00 +0000" {1}\r\ny => Announce; a Append "x" () 0 0 0 "y"
+a SEARCH ALL => a Search All
+a uid search charset "utf-8" not (or seen 1) 2,*:4 => a Search uid charset "utf-8" AllOf(Not(AllOf(Or(Seen,1:1),)),2:2,*:4,)
+a SEARCH CHARSET {8}\r\nUS-ASCII ALL => Announce; a Search charset "US-ASCII" All
+a FETCH 1 FLAGS => a Fetch 1:1 [Flags]
+a Uid Fetch *:4,4:2,7 (FLAGS internaldate RFC822.SIZE ENVELOPE BODY BODYSTRUCTURE UID RFC822 RFC822.HEADER RFC822.TEXT BODY[] BODY.PEEK[]) => a Fetch uid *:4,4:2,7:7 [Flags,InternalDate,Size,Envelope,Body,BodyStructure,Uid,Rfc822,Rfc822Header,Rfc822Text,Part(All),Part(All)peek]
+a STORE 1 FLAGS (\\Seen) => a Store 1:1 Replace (Seen,)
+a uid store 1:* -flags.silent \\DRAFT work \\deleted other => a Store uid 1:* Remove silent (Deleted,Draft,work,other,)
+a COPY 1 x => a Copy 1:1 "x"
+a Uid cOPY 1,2:3,*,*:*,4:* {2}\r\nxy => Announce; a Copy uid 1:1,2:3,*:*,*:*,4:* "xy"
+a UID COPY 1 x => a Copy uid 1:1 "x"
+a UID FETCH 1 UID => a Fetch uid 1:1 [Uid]
+a UID SEARCH 1 => a Search uid 1:1
+a UID STORE 1 FLAGS x => a Store uid 1:1 Replace (x,)
+
+# strings
+a SELECT "\\"\\\\\\"" => a Select ""\\""
+a SELECT "\\a" => Bad a 6
+a SELECT "\x80" => a Select "\x80"
+a SELECT "\xc3\xa4 \xff" => a Select "\xc3\xa4 \xff"
+a SELECT "\t\x7f" => a Select "\t\x7f"
+a SELECT "a\rb" => Bad a 6
+a SELECT "a\nb" => Bad a 6
+a SELECT "a\\\rb" => Bad a 6
+a SELECT "\r => Bad a 6
+a SELECT "{1}\r\nx" => Announce; Bad a 6
+a SELECT \x80 => Bad a 6
+a SELECT x\x80 => Bad a 7
+a SELECT x\r => Bad a 7
+a SELECT \r => Bad a 6
+a SELECT {3}\r\na\rb => Announce; a Select "a\rb"
+a SELECT {1}\r\n\n => Announce; a Select "\n"
+a SELECT {0000000002}\r\n\r\n => Announce; a Select "\r\n"
+a SELECT {4}\r\n"a\\" => Announce; a Select ""a\\""
+a SELECT {3}\r\n{3} => Announce; a Select "{3}"
+a SELECT +~}!#$&'-./:;<=>?@[]^_`| => a Select "+~}!#$&'-./:;<=>?@[]^_`|"
+a SELECT {99999999999} => Bad a 6
+a SELECT { 5} => Bad a 6
+a SELECT {5+} => Bad a 6
+a SELECT {} => Bad a 6
+a SELECT {5 => Bad a 6
+a SELECT {00000000005} => Bad a 6
+a SELECT {1} \r\nb NOOP => Bad a 6; b Noop
+a SELECT x{5+} => Bad a 7
+a SELECT x{1}\r\ny => Announce; Bad a 7
+
+# tags
+\(64:a\) NOOP => \(64:a\) Noop
+\(65:a\) NOOP => Bad * 1
+\(64:a\) => Bad \(64:a\) 3
+\(65:a\) => Bad * 1
+
+# no tag, also beside each lower reason
+\e => Bad * 1
+\e  => Bad * 1
+ NOOP => Bad * 1
++ NOOP => Bad * 1
+a+ NOOP => Bad * 1
++a NOOP => Bad * 1
+a] NOOP => Bad * 1
+* NOOP => Bad * 1
+a% NOOP => Bad * 1
+"a" NOOP => Bad * 1
+\\a NOOP => Bad * 1
+(a NOOP => Bad * 1
+a) NOOP => Bad * 1
+a\tNOOP => Bad * 1
+a\r NOOP => Bad * 1
+a\nb NOOP => Bad * 1
+a\x7f NOOP => Bad * 1
+a\x80 NOOP => Bad * 1
+{1}\r\na NOOP => Announce; Bad * 1
+a\0 NOOP => Bad * 1
+\0a NOOP => Bad * 1
+a+ \0 => Bad * 1
+a+ NOOP {1}\r\n\0 => Announce; Bad * 1
+a+ => Bad * 1
+a+ FROB => Bad * 1
+a+ SELECT => Bad * 1
+a+ FETCH 0 FLAGS => Bad * 1
+a+ FETCH x FLAGS => Bad * 1
+a+ NOOP x => Bad * 1
+
+# a NUL, beside no lower reason and beside each
+a NOOP\0 => Bad a 8
+a \0NOOP => Bad a 8
+a NO\0OP => Bad a 8
+a SELECT "\0" => Bad a 8
+a SELECT {1}\r\n\0 => Announce; Bad a 8
+a LIST {2}\r\nxy {3}\r\nx\0y => Announce; Announce; Bad a 8
+a LIST {2}\r\n\0y {3}\r\nxyz => Announce; Announce; Bad a 8
+a APPEND x {3}\r\n\r\n\0 => Announce; Bad a 8
+a LOGIN \0 => Bad a 8
+a LOGIN {1}\r\n\0 => Announce; Bad a 8
+a \0 => Bad a 8
+a {1}\r\n\0 => Announce; Bad a 8
+a FROB\0 => Bad a 8
+a FROB {1}\r\n\0 => Announce; Bad a 8
+a SELECT\0 => Bad a 8
+a SELECT "\0 => Bad a 8
+a FETCH 0 FLAGS\0 => Bad a 8
+a FETCH x\0 => Bad a 8
+a NOOP x\0 => Bad a 8
+a NOOP {1}\r\n\0 => Announce; Bad a 8
+
+# no command
+a => Bad a 3
+a  => Bad a 3
+a  NOOP => Bad a 3
+a (NOOP => Bad a 3
+a "NOOP" => Bad a 3
+a \\NOOP => Bad a 3
+a ] => Bad a 3
+a \x80 => Bad a 3
+a \tNOOP => Bad a 3
+a {4}\r\nNOOP => Announce; Bad a 3
+a {4+} => Bad a 3
+
+# unknown commands
+a FROB => Bad a 4
+a FROB x y => Bad a 4
+a FROB 0 => Bad a 4
+a FROB ( => Bad a 4
+a FROB {1}\r\nx => Announce; Bad a 4
+a N => Bad a 4
+a NOO => Bad a 4
+a NOOPS => Bad a 4
+a NOOP+ => Bad a 4
+a NOOP} => Bad a 4
+a a NOOP => Bad a 4
+a UIDFETCH 1 FLAGS => Bad a 4
+a UID.FETCH 1 FLAGS => Bad a 4
+a CHARSET => Bad a 4
+
+# arguments that are missing: strings and names
+a SELECT => Bad a 5
+a SELECT  => Bad a 5
+a SELECT " => Bad a 5
+a SELECT "abc => Bad a 5
+a SELECT "a\\ => Bad a 5
+a SELECT "a\\" => Bad a 5
+a EXAMINE => Bad a 5
+a CREATE => Bad a 5
+a DELETE => Bad a 5
+a SUBSCRIBE => Bad a 5
+a UNSUBSCRIBE => Bad a 5
+a RENAME => Bad a 5
+a RENAME  => Bad a 5
+a RENAME x => Bad a 5
+a RENAME x  => Bad a 5
+a RENAME "x ( => Bad a 5
+a RENAME {1}\r\nx => Announce; Bad a 5
+a LIST => Bad a 5
+a LIST "" => Bad a 5
+a LIST ""  => Bad a 5
+a LIST "" " => Bad a 5
+a LSUB => Bad a 5
+a LSUB x => Bad a 5
+a COPY => Bad a 5
+a COPY 1 => Bad a 5
+a COPY 1  => Bad a 5
+a COPY 1 " => Bad a 5
+# lists of STATUS
+a STATUS => Bad a 5
+a STATUS x => Bad a 5
+a STATUS x  => Bad a 5
+a STATUS x ( => Bad a 5
+a STATUS x (MESSAGES => Bad a 5
+a STATUS x (MESSAGES  => Bad a 5
+# flags, dates and texts
+a APPEND => Bad a 5
+a APPEND x => Bad a 5
+a APPEND x  => Bad a 5
+a APPEND x ( => Bad a 5
+a APPEND x (\\Seen => Bad a 5
+a APPEND x (\\Seen  => Bad a 5
+a APPEND x () => Bad a 5
+a APPEND x ()  => Bad a 5
+a APPEND x " => Bad a 5
+a APPEND x " 1-Apr-2024 12:34:56 +0000 => Bad a 5
+a APPEND x " 1-Apr-2024 12:34:56 +0000" => Bad a 5
+a APPEND x " 1-Apr-2024 12:34:56 +0000"  => Bad a 5
+a STORE 1 => Bad a 5
+a STORE 1  => Bad a 5
+a STORE 1 FLAGS => Bad a 5
+a STORE 1 FLAGS  => Bad a 5
+a STORE 1 FLAGS ( => Bad a 5
+a STORE 1 FLAGS (x => Bad a 5
+a STORE 1 FLAGS (x  => Bad a 5
+a STORE 1 FLAGS x  => Bad a 5
+a STORE 1 FLAGS \\Seen  => Bad a 5
+# sets
+a FETCH => Bad a 5
+a FETCH  => Bad a 5
+a FETCH 1 => Bad a 5
+a FETCH 1: => Bad a 5
+a FETCH 1, => Bad a 5
+a FETCH *: => Bad a 5
+a FETCH 1:*, => Bad a 5
+a STORE => Bad a 5
+a STORE  => Bad a 5
+a COPY  => Bad a 5
+# items, sections and partials
+a FETCH 1  => Bad a 5
+a FETCH 1 ( => Bad a 5
+a FETCH 1 (FLAGS => Bad a 5
+a FETCH 1 (FLAGS  => Bad a 5
+a FETCH 1 (BODY[] => Bad a 5
+a FETCH 1 BODY.PEEK => Bad a 5
+a FETCH 1 BODY.PEEK[ => Bad a 5
+a FETCH 1 BODY[ => Bad a 5
+a FETCH 1 BODY[1 => Bad a 5
+a FETCH 1 BODY[1. => Bad a 5
+a FETCH 1 BODY[1.2 => Bad a 5
+a FETCH 1 BODY[TEXT => Bad a 5
+a FETCH 1 BODY[HEADER.FIELDS => Bad a 5
+a FETCH 1 BODY[HEADER.FIELDS  => Bad a 5
+a FETCH 1 BODY[HEADER.FIELDS ( => Bad a 5
+a FETCH 1 BODY[HEADER.FIELDS (X => Bad a 5
+a FETCH 1 BODY[HEADER.FIELDS (X  => Bad a 5
+a FETCH 1 BODY[HEADER.FIELDS (X) => Bad a 5
+a FETCH 1 BODY[HEADER.FIELDS (" => Bad a 5
+a FETCH 1 BODY[HEADER.FIELDS ({1}\r\nX => Announce; Bad a 5
+a FETCH 1 BODY[]< => Bad a 5
+a FETCH 1 BODY[]<0 => Bad a 5
+a FETCH 1 BODY[]<0. => Bad a 5
+a FETCH 1 BODY[]<0.1 => Bad a 5
+# the command behind UID, keys and charsets
+a UID => Bad a 5
+a UID  => Bad a 5
+a UID COPY => Bad a 5
+a UID COPY 1 => Bad a 5
+a UID FETCH => Bad a 5
+a UID FETCH 1 => Bad a 5
+a UID STORE => Bad a 5
+a UID STORE 1 FLAGS => Bad a 5
+a UID SEARCH => Bad a 5
+a SEARCH => Bad a 5
+a SEARCH  => Bad a 5
+a SEARCH CHARSET => Bad a 5
+a SEARCH CHARSET  => Bad a 5
+a SEARCH CHARSET x => Bad a 5
+a SEARCH CHARSET x  => Bad a 5
+a SEARCH CHARSET {1}\r\nx => Announce; Bad a 5
+
+# numbers that are out of range, and those at the limits
+a FETCH 0 FLAGS => Bad a 9
+a FETCH 0 => Bad a 9
+a FETCH 0x => Bad a 9
+a FETCH 0 FLAG => Bad a 9
+a FETCH 0:x FLAGS => Bad a 9
+a FETCH 1:0 FLAGS => Bad a 9
+a FETCH *:0 FLAGS => Bad a 9
+a FETCH 1,0 FLAGS => Bad a 9
+a FETCH 1:0 => Bad a 9
+a FETCH 4294967295 FLAGS => a Fetch 4294967295:4294967295 [Flags]
+a FETCH 4294967296 FLAGS => Bad a 9
+a FETCH 4294967296: => Bad a 9
+a FETCH 9999999999 FLAGS => Bad a 9
+a FETCH 0000000001 FLAGS => a Fetch 1:1 [Flags]
+a FETCH 00000000001 FLAGS => Bad a 6
+a FETCH 0000000000 FLAGS => Bad a 9
+a FETCH 00000000000 FLAGS => Bad a 9
+a FETCH 10000000000 FLAGS => Bad a 9
+a FETCH 18446744073709551617 FLAGS => Bad a 9
+a FETCH 340282366920938463463374607431768211457 FLAGS => Bad a 9
+a UID FETCH 0 FLAGS => Bad a 9
+a STORE 0 FLAGS x => Bad a 9
+a UID STORE 0 FLAGS x => Bad a 9
+a COPY 0 x => Bad a 9
+a UID COPY 4294967296 x => Bad a 9
+a FETCH 1 BODY[0] => Bad a 9
+a FETCH 1 BODY[1.0] => Bad a 9
+a FETCH 1 BODY[0.MIME] => Bad a 9
+a FETCH 1 BODY[4294967296] => Bad a 9
+a FETCH 1 BODY[4294967295] => a Fetch 1:1 [Part(4294967295.All)]
+a FETCH 1 (FLAGS BODY[0 => Bad a 9
+a FETCH 1 BODY[]<0.0> => Bad a 9
+a FETCH 1 BODY[]<0.1> => a Fetch 1:1 [Part(All)<0.1>]
+a FETCH 1 BODY[]<0.4294967295> => a Fetch 1:1 [Part(All)<0.4294967295>]
+a FETCH 1 BODY[]<0.4294967296> => Bad a 9
+a FETCH 1 BODY[]<4294967295.1> => a Fetch 1:1 [Part(All)<4294967295.1>]
+a FETCH 1 BODY[]<4294967296.0> => Bad a 9
+a FETCH 1 BODY[]<4294967296 => Bad a 9
+
+# arguments that aren't understood: strings, names and patterns
+a SELECT ( => Bad a 6
+a SELECT % => Bad a 6
+a SELECT * => Bad a 6
+a SELECT \\x => Bad a 6
+a SELECT  x => Bad a 6
+a SELECT\tx => Bad a 6
+a SELECT(x => Bad a 6
+a SELECT"x" => Bad a 6
+a SELECT] => Bad a 6
+a SELECT{1}\r\nx => Announce; Bad a 6
+a RENAME ( => Bad a 6
+a RENAME x ( => Bad a 6
+a RENAME x  y => Bad a 6
+a RENAME "x"y => Bad a 6
+a LIST % x => Bad a 6
+a LIST "" ( => Bad a 6
+a LIST x(y => Bad a 6
+a COPY 1 ( => Bad a 6
+# lists of STATUS
+a STATUS ( => Bad a 6
+a STATUS x MESSAGES => Bad a 6
+a STATUS x () => Bad a 6
+a STATUS x (FROB) => Bad a 6
+a STATUS x (MESSAGE => Bad a 6
+a STATUS x ( MESSAGES) => Bad a 6
+a STATUS x (MESSAGES ) => Bad a 6
+a STATUS x (MESSAGES  RECENT) => Bad a 6
+a STATUS x (MESSAGES,RECENT) => Bad a 6
+a STATUS x (MESSAGES] => Bad a 6
+a STATUS x {1}\r\nx => Announce; Bad a 6
+# flags, dates and texts
+a APPEND x y => Bad a 6
+a APPEND x "y" => Bad a 6
+a APPEND x "y" {1}\r\nz => Announce; Bad a 6
+a APPEND x  {1}\r\nz => Announce; Bad a 6
+a APPEND x "1-Apr-2024 12:34:56 +0000" {1}\r\nz => Announce; Bad a 6
+a APPEND x "31-Feb-2024 12:34:56 +0000" {1}\r\nz => Announce; Bad a 6
+a APPEND x " 1-Apr-2024 12:34:56 +0000" () {1}\r\nz => Announce; Bad a 6
+a APPEND x " 1-Apr-2024 12:34:56 +0000"{1}\r\nz => Announce; Bad a 6
+a APPEND x () () {1}\r\nz => Announce; Bad a 6
+a APPEND x (){1}\r\nz => Announce; Bad a 6
+a APPEND x \\Seen {1}\r\nz => Announce; Bad a 6
+a APPEND x (\\Recent) {1}\r\nz => Announce; Bad a 6
+a APPEND x (\\ => Bad a 6
+a APPEND x (\\) => Bad a 6
+a APPEND x (\\See => Bad a 6
+a APPEND x (\\Seen\\Draft) {1}\r\nz => Announce; Bad a 6
+a APPEND x ( \\Seen) {1}\r\nz => Announce; Bad a 6
+a APPEND x (\\Seen ) {1}\r\nz => Announce; Bad a 6
+a APPEND x (\\Seen  \\Draft) {1}\r\nz => Announce; Bad a 6
+a APPEND x ((\\Seen)) {1}\r\nz => Announce; Bad a 6
+a APPEND x ("y") {1}\r\nz => Announce; Bad a 6
+a APPEND x ({1}\r\ny => Announce; Bad a 6
+a APPEND x (\(64:k\)) {1}\r\nz => Announce; a Append "x" (\(64:k\),) "z"
+a APPEND x (\(65:k\)) {1}\r\nz => Announce; Bad a 6
+a STORE 1 FLAGS \(64:k\) => a Store 1:1 Replace (\(64:k\),)
+a STORE 1 FLAGS \(65:k\) => Bad a 6
+a STORE 1 FLAG x => Bad a 6
+a STORE 1 FLAG => Bad a 6
+a STORE 1 FLAGS.SILENTLY x => Bad a 6
+a STORE 1 FLAGS.SILENT. x => Bad a 6
+a STORE 1 +-FLAGS x => Bad a 6
+a STORE 1 +.SILENT x => Bad a 6
+a STORE 1 (x) => Bad a 6
+a STORE 1  FLAGS x => Bad a 6
+a STORE 1 FLAGS(x) => Bad a 6
+a STORE 1 FLAGS "x" => Bad a 6
+a STORE 1 FLAGS ((x) => Bad a 6
+a STORE 1 FLAGS x  y => Bad a 6
+a STORE 1 FLAGS x (y) => Bad a 6
+a STORE 1 FLAGS \\Recent => Bad a 6
+a STORE 1 FLAGS \\* => Bad a 6
+a STORE 1 FLAGS {1}\r\nx => Announce; Bad a 6
+# sets
+a FETCH x FLAGS => Bad a 6
+a FETCH x 0 => Bad a 6
+a FETCH (1) FLAGS => Bad a 6
+a FETCH "1" FLAGS => Bad a 6
+a FETCH 1x FLAGS => Bad a 6
+a FETCH -1 FLAGS => Bad a 6
+a FETCH , FLAGS => Bad a 6
+a FETCH :1 FLAGS => Bad a 6
+a FETCH 1, FLAGS => Bad a 6
+a FETCH 1: FLAGS => Bad a 6
+a FETCH 1,,2 FLAGS => Bad a 6
+a FETCH 1:2:3 FLAGS => Bad a 6
+a FETCH ** FLAGS => Bad a 6
+a FETCH *1 FLAGS => Bad a 6
+a FETCH  1 FLAGS => Bad a 6
+a FETCH {1}\r\n1 FLAGS => Announce; Bad a 6
+a STORE x FLAGS y => Bad a 6
+a COPY x y => Bad a 6
+a COPY 1x y => Bad a 6
+a COPY 1( => Bad a 6
+# items, sections and partials
+a FETCH 1 FLAG => Bad a 6
+a FETCH 1 FLAG 0 => Bad a 6
+a FETCH 1 FLAGSX => Bad a 6
+a FETCH 1  FLAGS => Bad a 6
+a FETCH 1 "FLAGS" => Bad a 6
+a FETCH 1 {5}\r\nFLAGS => Announce; Bad a 6
+a FETCH 1 FLAGS[ => Bad a 6
+a FETCH 1 FLAGS[] => Bad a 6
+a FETCH 1 BODYSTRUCTURE[] => Bad a 6
+a FETCH 1 RFC822<0.5> => Bad a 6
+a FETCH 1 () => Bad a 6
+a FETCH 1 (FAST) => Bad a 6
+a FETCH 1 (FLAGS ALL) => Bad a 6
+a FETCH 1 (FLAGS  UID) => Bad a 6
+a FETCH 1 ( FLAGS) => Bad a 6
+a FETCH 1 (FLAGS ) => Bad a 6
+a FETCH 1 (FLAGS,UID) => Bad a 6
+a FETCH 1 ((FLAGS)) => Bad a 6
+a FETCH 1 BODY.PEEK FLAGS => Bad a 6
+a FETCH 1 BODY.PEEKS[] => Bad a 6
+a FETCH 1 BODY[MIME] => Bad a 6
+a FETCH 1 BODY[FROB] => Bad a 6
+a FETCH 1 BODY[HEAD => Bad a 6
+a FETCH 1 BODY[1.FROB] => Bad a 6
+a FETCH 1 BODY[1HEADER] => Bad a 6
+a FETCH 1 BODY[.HEADER] => Bad a 6
+a FETCH 1 BODY[1..2] => Bad a 6
+a FETCH 1 BODY[1.] => Bad a 6
+a FETCH 1 BODY[HEADER.1] => Bad a 6
+a FETCH 1 BODY[ ] => Bad a 6
+a FETCH 1 BODY[TEXT ] => Bad a 6
+a FETCH 1 BODY["TEXT"] => Bad a 6
+a FETCH 1 BODY[HEADER.FIELDS] => Bad a 6
+a FETCH 1 BODY[HEADER.FIELDS(X)] => Bad a 6
+a FETCH 1 BODY[HEADER.FIELDS X] => Bad a 6
+a FETCH 1 BODY[HEADER.FIELDS ()] => Bad a 6
+a FETCH 1 BODY[HEADER.FIELDS ( X)] => Bad a 6
+a FETCH 1 BODY[HEADER.FIELDS (X )] => Bad a 6
+a FETCH 1 BODY[HEADER.FIELDS (X,(Y)] => Bad a 6
+a FETCH 1 BODY[HEADER (X)] => Bad a 6
+a FETCH 1 BODY[]<x => Bad a 6
+a FETCH 1 BODY[]<.1> => Bad a 6
+a FETCH 1 BODY[]<0> => Bad a 6
+a FETCH 1 BODY[]<0.> => Bad a 6
+a FETCH 1 BODY[]<0.1] => Bad a 6
+a FETCH 1 BODY[]<00000000000.1> => Bad a 6
+a FETCH 1 BODY[]<-1.1> => Bad a 6
+# the command behind UID and charsets
+a UID x => Bad a 6
+a UID NOOP => Bad a 6
+a UID EXPUNGE => Bad a 6
+a UID UID FETCH 1 FLAGS => Bad a 6
+a UID  FETCH 1 FLAGS => Bad a 6
+a UID(FETCH => Bad a 6
+a UID "FETCH" 1 FLAGS => Bad a 6
+a UID FETCHX 1 FLAGS => Bad a 6
+a UID FETCH x FLAGS => Bad a 6
+a SEARCH CHARSET (x) ALL => Bad a 6
+a SEARCH CHARSET x  ALL => Bad a 6
+a SEARCH CHARSET "x"ALL => Bad a 6
+a SEARCH CHARSETX x ALL => Bad a 6
+
+# text behind the last argument
+a NOOP x => Bad a 7
+a NOOP  => Bad a 7
+a NOOP\t => Bad a 7
+a NOOP\r => Bad a 7
+a NOOP\x80 => Bad a 7
+a NOOP(x => Bad a 7
+a NOOP] => Bad a 7
+a NOOP {1}\r\nx => Announce; Bad a 7
+a NOOP{0}\r\n => Announce; Bad a 7
+a NOOP {1+} => Bad a 7
+a CAPABILITY x => Bad a 7
+a CHECK x => Bad a 7
+a CLOSE x => Bad a 7
+a EXPUNGE 1 => Bad a 7
+a LOGOUT x => Bad a 7
+a SELECT x y => Bad a 7
+a SELECT INBOX  => Bad a 7
+a SELECT x( => Bad a 7
+a SELECT x% => Bad a 7
+a SELECT "x"y => Bad a 7
+a SELECT {1}\r\nxy => Announce; Bad a 7
+a SELECT {1}\r\nx  => Announce; Bad a 7
+a SELECT x {1}\r\ny => Announce; Bad a 7
+a EXAMINE x y => Bad a 7
+a CREATE x y => Bad a 7
+a DELETE x y => Bad a 7
+a SUBSCRIBE x y => Bad a 7
+a UNSUBSCRIBE x y => Bad a 7
+a RENAME x y z => Bad a 7
+a LIST x y z => Bad a 7
+a LIST "" %( => Bad a 7
+a LSUB x y z => Bad a 7
+a STATUS x (MESSAGES) y => Bad a 7
+a STATUS x (MESSAGES)y => Bad a 7
+a APPEND x {1}\r\nyz => Announce; Bad a 7
+a APPEND x {1}\r\ny  => Announce; Bad a 7
+a APPEND x {1}\r\ny {1}\r\nz => Announce; Announce; Bad a 7
+a FETCH 1 FLAGS UID => Bad a 7
+a FETCH 1 FLAGS( => Bad a 7
+a FETCH 1 FLAGS] => Bad a 7
+a FETCH 1 (FLAGS)  => Bad a 7
+a FETCH 1 (FLAGS)x => Bad a 7
+a FETCH 1 ALL x => Bad a 7
+a FETCH 1 ALL[] => Bad a 6
+a FETCH 1 BODY[]x => Bad a 7
+a FETCH 1 BODY[]<0.1>x => Bad a 7
+a FETCH 1 BODY[]<0.1><0.1> => Bad a 7
+a STORE 1 FLAGS (x) y => Bad a 7
+a STORE 1 FLAGS (x)y => Bad a 7
+a STORE 1 FLAGS ()  => Bad a 7
+a STORE 1 FLAGS x(y => Bad a 7
+a STORE 1 FLAGS x) => Bad a 7
+a STORE 1 FLAGS x]y => Bad a 7
+a COPY 1 x y => Bad a 7
+a UID COPY 1 x y => Bad a 7
+a UID FETCH 1 FLAGS x => Bad a 7
+a UID STORE 1 FLAGS (x)x => Bad a 7
+
+# what FETCH and STORE ask for
+a FETCH 1 ALL => a Fetch 1:1 [Flags,InternalDate,Size,Envelope]
+a FETCH 1 Full => a Fetch 1:1 [Flags,InternalDate,Size,Envelope,Body]
+a FETCH 1 fast => a Fetch 1:1 [Flags,InternalDate,Size]
+a FETCH 1 (FLAGS FLAGS) => a Fetch 1:1 [Flags,Flags]
+a FETCH 1 Body[Header] => a Fetch 1:1 [Part(Header)]
+a FETCH 1 BODY[text] => a Fetch 1:1 [Part(Text)]
+a FETCH 1 BODY[1] => a Fetch 1:1 [Part(1.All)]
+a FETCH 1 BODY[1.2.03.Mime] => a Fetch 1:1 [Part(1.2.3.Mime)]
+a FETCH 1 BODY[1.HEADER] => a Fetch 1:1 [Part(1.Header)]
+a FETCH 1 BODY[2.TEXT] => a Fetch 1:1 [Part(2.Text)]
+a FETCH 1 body.peek[4.header.fields.not (a "b c" {1}\r\n) ])]<7.8> => Announce; a Fetch 1:1 [Part(4.FieldsNot "a" "b c" ")" "]")<7.8>peek]
+a FETCH 1 (BODY[HEADER.FIELDS ("")] BODY[1]<0.1> UID) => a Fetch 1:1 [Part(Fields ""),Part(1.All)<0.1>,Uid]
+a STORE 1 FLAGS () => a Store 1:1 Replace ()
+a STORE 1 +FLAGS x => a Store 1:1 Add (x,)
+a STORE 1 -FLAGS x => a Store 1:1 Remove (x,)
+a STORE 1 FLAGS.SILENT x => a Store 1:1 Replace silent (x,)
+a STORE 1 +FLAGS.SILENT (x x X) => a Store 1:1 Add silent (x,x,X,)
+
+# what mail programs send
+A1 Create Archive/2024 => A1 Create "Archive/2024"
+3 store 1:3 +Flags (\\DELETED) => 3 Store 1:3 Add (Deleted,)
+a.7 uid search unseen => a.7 Search uid Unseen
+a LIST "" "INBOX.%" => a List "" "INBOX.%"
+a STATUS "Sent Items" (UIDNEXT MESSAGES UNSEEN) => a Status "Sent Items" [UidNext,Messages,Unseen]
+a APPEND Sent () {4}\r\nHi\r\n => Announce; a Append "Sent" () "Hi\r\n"
+a SELECT {5}\r\nInbox\r\nb NOOP => Announce; a Select "Inbox"; b Noop
+a NOOP\r\nb FROB\r\n\r\nc LOGOUT => a Noop; Bad b 4; Bad * 1; c Logout
+a UID FETCH 1:3 (UID FLAGS BODY.PEEK[HEADER.FIELDS (X-TUID)]) => a Fetch uid 1:3 [Uid,Flags,Part(Fields "X-TUID")peek]
+a UID FETCH 1:* (FLAGS) => a Fetch uid 1:* [Flags]
+a UID SEARCH RETURN (ALL) UNSEEN => Bad a 6
+a FETCH 1 (FLAGS) (CHANGEDSINCE 1) => Bad a 7
+a SELECT INBOX (CONDSTORE) => Bad a 7
+a ID NIL => Bad a 4
+a IDLE => Bad a 4
+"#;
+
+/// A stream with a CRLF behind it.
+pub fn with_end(alloc: Global, text: &[u8]) -> Result<Vec<u8>, AllocError> {
+    let mut stream = Vec::from_slice(alloc, text)?;
+    stream.extend_from_slice(b"\r\n")?;
+    Ok(stream)
+}
+
+#[test]
+fn commands_are_what_they_mean(rt: HostRuntime) -> Result<(), Fail> {
+    for row in &rows(rt.alloc(), COMMANDS)? {
+        let stream = with_end(rt.alloc(), row.text.as_slice())?;
+        let found = pieces_text(rt.alloc(), &[stream.as_slice()])?;
+        row.agrees(found.as_slice())?;
+    }
+    Ok(())
+}
