@@ -1,5 +1,6 @@
 -- What a feed stands for.
 use Rattle.std.specs.Prelude.{ℕ, Bool, List, [], ◌∷◌, ◌++◌, ◌==◌, ◌≡◌, true, false, take}
+use Rattle.unit_reader.specs.Units as reader
 use Rattle.command_lines.specs.Stream.{units_of, unfinished}
 use Rattle.command_lines.specs.declared.feed.Feed.{Feed}
 
@@ -20,10 +21,8 @@ pub record HasTaken (feed : Feed) (stream : List ℕ) : Type 0 where
   pub goes_on : feed.spent ≡ false
 
 -- a piece behind a stream adds these units, those that weren't whole before it
-pub record Adds (stream piece : List ℕ) (old new : List (List ℕ)) : Type 0 where
-  pub more : List (List ℕ)
-  pub added : new ≡ old ++ more
-  pub are_units : units_of (stream ++ piece) ≡ units_of stream ++ more
+abbrev pub Adds : (stream piece : List ℕ) (old new : List (List ℕ)) → Type 0
+Adds stream piece old new = reader.Adds units_of stream piece old new
 
 -- of the units that the piece adds only the first were added, and the others are missing
 pub record AddsFirst (stream piece : List ℕ) (old new : List (List ℕ)) : Type 0 where

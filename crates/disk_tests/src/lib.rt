@@ -7,6 +7,8 @@ mod crashes;
 #[cfg(test)]
 mod memory_host;
 #[cfg(test)]
+mod reach;
+#[cfg(test)]
 mod real_files;
 #[cfg(test)]
 mod replies;

@@ -1,7 +1,7 @@
 -- What calls keep, as the crates above say it.
-use Rattle.std.specs.Prelude.{ℕ, List, [], ◌++◌, ◌≡◌, ◌≢◌, ◌⊎◌, ◌<◌, ◌≤◌, Some, take, drop, length, false, if◌then◌else◌}
+use Rattle.std.specs.Prelude.{ℕ, Bool, List, [], ◌++◌, ◌≡◌, ◌≢◌, ◌⊎◌, ◌<◌, ◌≤◌, Some, take, drop, length, false, if◌then◌else◌}
 use Rattle.std.specs.FinMap.{get}
-use Rattle.file_model.specs.Images.{Image, Names, Entry, Node, Agree, bytes_at, text_at, a_file, a_directory, node_at, nothing, file}
+use Rattle.file_model.specs.Images.{Image, Names, Entry, Node, Agree, bytes_at, text_at, a_file, a_directory, node_at, nothing, file, is_directory}
 use Rattle.file_model.specs.Kinds.{IsFile, CanMake}
 use Rattle.file_model.specs.Paths.{parent, is_top, is_at_or_inside, temporary_of}
 use Rattle.file_model.specs.Disk.{Disk, MayStand, MayLeave, IsPossible, AreBytes, left_pending_by, seen_names, seen}
@@ -147,3 +147,11 @@ pub record IsSynced (path bytes : List ℕ) (disk : Disk) : Type 0 where
 -- Bytes can be put at the place: a file reaches so far, or one can be made there and it is the start.
 abbrev pub CanPut : List ℕ → ℕ → Image → Type 0
 CanPut path place image = IsFile image path place ⊎ (CanMake image path × (place ≡ 0))
+
+-- In each image that a crash may leave, directories stand at exactly these paths.
+pub record HasDirectories (at : List ℕ → Bool) (disk : Disk) : Type 0 where
+  pub each : (image : Image) → MayLeave disk image → (q : List ℕ) → is_directory image q ≡ at q
+
+-- Calls on files make and take away no directory, whatever a crash leaves.
+pub record KeepsDirectories (old new : Disk) : Type 0 where
+  pub each : (at : List ℕ → Bool) → HasDirectories at old → HasDirectories at new

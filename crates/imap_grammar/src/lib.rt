@@ -8,6 +8,7 @@
 mod feed;
 mod law;
 mod meaning;
+mod reader;
 mod unit;
 
 pub use feed::{Feed, units_of_pieces};

@@ -12,7 +12,7 @@ ghost use Rattle.imapd_core.specs.Lines.{is_logout};
 use crate::line::{Command, read_command, reply_tag};
 use crate::reading::count_at;
 use crate::reply::{bad_reply, logout_reply, status_reply};
-use command_lines::Line;
+use command_lines::{Feed, Line};
 use file_model::{Files, Host};
 use session_loop::{Answers, Next, Stop};
 use std::alloc::{AllocError, Global};
@@ -39,6 +39,8 @@ impl Inbox {
 }
 
 impl<H: Host> Answers<H> for Inbox {
+    type Reader = Feed;
+
     ghost State = { State };
 
     ghost protocol = { protocol };

@@ -19,8 +19,8 @@ fn stamp_in_form(date: DateKeep, stamp: Stamp) -> Stamp
     }
 }
 
-// A text as a driver keeps texts.
-fn text_in_form(alloc: Global, form: TextKeep, text: &[u8]) -> Result<Vec<u8>, AllocError>
+/// A text as a driver keeps texts.
+pub fn text_in_form(alloc: Global, form: TextKeep, text: &[u8]) -> Result<Vec<u8>, AllocError>
     ensures { IfOk result (λ v. v.items ≡ text_in_form form text.now) }
 {
     match form {

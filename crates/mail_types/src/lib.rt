@@ -19,7 +19,7 @@ mod uids;
 pub use contents::{Placing, StoreContents};
 pub use driver::{DateKeep, Driver, Keeps, Limit, TextKeep, keeps_of};
 pub use flags::Flags;
-pub use keeping::{kept, take};
+pub use keeping::{kept, take, text_in_form};
 pub use mailbox::Mailbox;
 pub use message::{FlagChange, FlagChanges, NewMessage, NewMessages, Record, Records};
 pub use opening::opened;

@@ -9,7 +9,7 @@ use Rattle.mem_host.specs.Deeds.{event_of_deed}
 use Rattle.mem_host.specs.Replay.{after_fitting, world_after, seen_after, with_directory, with_resting_file}
 use Rattle.mem_host.specs.Fitted.{FitsAt, AllFit}
 use Rattle.mem_host.specs.Remains.{IsRemains, IsTidy, CanStep}
-use Rattle.mem_host.specs.Crashes.{between_calls, in_call, in_event, is_call, calls_in, crash_in}
+use Rattle.mem_host.specs.Crashes.{between_calls, is_sync, in_call, in_event, is_call, calls_in, crash_in}
 use Rattle.mem_host.specs.Finding.{events_of, Finds, FindsAfter, CanGoOn}
 use Rattle.mem_host.specs.declared.log.Deed.{Deed}
 use Rattle.mem_host.specs.declared.crash.Crash.{Crash as CrashData}
@@ -52,31 +52,25 @@ finds_file path bytes old remains earlier puts fit finds = record {
 -- ---- A crash in a call
 
 -- the call is found undone or done
-pub finds_undone : (call : Call) (old : CrashData) (earlier : List Event) → (old.pick % 2 ≡ 1 → ⊥) → FindsAfter old earlier → Finds (record { remains = old.remains; said = old.said; pick = old.pick / 2 }) (in_call call (world_after earlier) old.pick)
-finds_undone call old earlier even finds = record {
-  remains = subst (IsRemains old.remains) (sym (undone (old.pick % 2 == 0) (is_even old.pick even))) finds.remains;
+pub finds_undone : (call : Call) (old : CrashData) (earlier : List Event) → is_sync call ≡ true → FindsAfter old earlier → Finds old (in_call call (world_after earlier) old.pick)
+finds_undone call old earlier is finds = record {
+  remains = subst (IsRemains old.remains) (sym (undone (is_sync call) is)) finds.remains;
   said = finds.said;
   pick = refl;
 }
   where
-    is_even : (n : ℕ) → (n % 2 ≡ 1 → ⊥) → (n % 2 == 0) ≡ true
-    is_even n odd = grind arith
-
     undone : (b : Bool) → b ≡ true → cond b (world_after earlier).disk (after_fitting call (world_after earlier).disk) ≡ (world_after earlier).disk
     undone true is = refl
     undone false is = absurd (cc)
 
-pub finds_in_call : (call : Call) (old : CrashData) (remains : Remains) (earlier : List Event) → ((disk : Disk) → IsRemains old.remains disk → IsTidy disk → IsRemains remains (after call disk)) → old.pick % 2 ≡ 1
-    → Fits call (seen_after earlier) → FindsAfter old earlier → Finds (record { remains = remains; said = old.said; pick = old.pick / 2 }) (in_call call (world_after earlier) old.pick)
-finds_in_call call old remains earlier steps odd fit finds = record {
-  remains = subst (IsRemains remains) (sym (done (old.pick % 2 == 0) (is_odd old.pick odd))) (finds_done call old remains earlier steps fit finds).remains;
+pub finds_in_call : (call : Call) (old : CrashData) (remains : Remains) (earlier : List Event) → ((disk : Disk) → IsRemains old.remains disk → IsTidy disk → IsRemains remains (after call disk)) → is_sync call ≡ false
+    → Fits call (seen_after earlier) → FindsAfter old earlier → Finds (record { remains = remains; said = old.said; pick = old.pick }) (in_call call (world_after earlier) old.pick)
+finds_in_call call old remains earlier steps other fit finds = record {
+  remains = subst (IsRemains remains) (sym (done (is_sync call) other)) (finds_done call old remains earlier steps fit finds).remains;
   said = finds.said;
   pick = refl;
 }
   where
-    is_odd : (n : ℕ) → n % 2 ≡ 1 → (n % 2 == 0) ≡ false
-    is_odd n odd = grind arith
-
     done : (b : Bool) → b ≡ false → cond b (world_after earlier).disk (after_fitting call (world_after earlier).disk) ≡ after_fitting call (world_after earlier).disk
     done true is = absurd (cc)
     done false is = refl

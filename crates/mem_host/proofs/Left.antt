@@ -9,7 +9,7 @@ use Rattle.mem_host.specs.Events.{Event, put_directory, put_file, found, looked,
 use Rattle.mem_host.specs.Fitting.{fits}
 use Rattle.mem_host.specs.Fitted.{FitsAt, AllFit}
 use Rattle.mem_host.specs.Replay.{after_fitting, next_world, instants, pushed, replay, world_after, AllPut}
-use Rattle.mem_host.specs.Crashes.{between_calls, in_event, is_call, calls_in, crash_in, image_left}
+use Rattle.mem_host.specs.Crashes.{is_sync, between_calls, in_event, is_call, calls_in, crash_in, image_left}
 use Rattle.mem_host.specs.Soundness.{sound_call}
 use Rattle.mem_host.specs.Remains.{IsTidy}
 use Rattle.mem_host.proofs.Replayed.{newest, sound_world}
@@ -29,8 +29,8 @@ module _ (P : Disk → Type 0) (all : (events : List Event) → P (world_after e
   in_event_holds (put_file path bytes) earlier pick = all earlier
   in_event_holds (found bytes) earlier pick = all earlier
   in_event_holds looked earlier pick = all earlier
-  in_event_holds (did call) earlier pick = let disk = (world_after earlier).disk in either P (pick % 2 == 0) disk (after_fitting call disk) (all earlier) (step call disk (all earlier))
-  in_event_holds (refused call) earlier pick = let disk = (world_after earlier).disk in either P (pick % 2 == 0) disk (after_fitting call disk) (all earlier) (step call disk (all earlier))
+  in_event_holds (did call) earlier pick = let disk = (world_after earlier).disk in either P (is_sync call) disk (after_fitting call disk) (all earlier) (step call disk (all earlier))
+  in_event_holds (refused call) earlier pick = let disk = (world_after earlier).disk in either P (is_sync call) disk (after_fitting call disk) (all earlier) (step call disk (all earlier))
   in_event_holds (heard room piece) earlier pick = all earlier
   in_event_holds hear_failed earlier pick = all earlier
   in_event_holds (said bytes) earlier pick = all earlier
@@ -151,7 +151,7 @@ in_event_instant (put_directory path) earlier pick call = absurd (cc)
 in_event_instant (put_file path bytes) earlier pick call = absurd (cc)
 in_event_instant (found bytes) earlier pick call = absurd (cc)
 in_event_instant looked earlier pick call = earlier_instant looked (replay earlier) _ _ call (now_instant earlier)
-in_event_instant (did k) earlier pick call = at (pick % 2 == 0)
+in_event_instant (did k) earlier pick call = at (is_sync k)
   where
     world : World
     world = world_after earlier
@@ -159,7 +159,7 @@ in_event_instant (did k) earlier pick call = at (pick % 2 == 0)
     at : (b : Bool) → IsInstant (replay (did k ∷ earlier)) (cond b world.disk (after_fitting k world.disk)) world.streams.said
     at true = earlier_instant (did k) (replay earlier) world.disk world.streams.said call (now_instant earlier)
     at false = now_instant (did k ∷ earlier)
-in_event_instant (refused k) earlier pick call = at (pick % 2 == 0)
+in_event_instant (refused k) earlier pick call = at (is_sync k)
   where
     world : World
     world = world_after earlier

@@ -1,7 +1,7 @@
 -- What a crash leaves of a host in memory. The digits of a pick choose it.
 use Rattle.std.specs.Prelude.{ℕ, suc, zero, Bool, true, false, List, [], ◌∷◌, ◌++◌, ◌+◌, ◌-◌, ◌/◌, ◌%◌, ◌==◌, ◌&&◌, nat_lt, length, take, drop, replicate, if◌then◌else◌}
 use Rattle.file_model.specs.Images.{Image, Names}
-use Rattle.file_model.specs.Disk.{Edit, wrote, shortened, FileState, Disk, Call, written, all_done}
+use Rattle.file_model.specs.Disk.{Edit, wrote, shortened, FileState, Disk, Call, make, make_dir, write_at, cut, sync, rename, remove_at, sync_dir, written, all_done}
 use Rattle.file_model.specs.Histories.{World}
 use Rattle.mem_host.specs.Events.{Event, put_directory, put_file, found, looked, did, refused, heard, hear_failed, said, say_failed}
 use Rattle.mem_host.specs.Replay.{first_world, after_fitting, world_after}
@@ -73,9 +73,20 @@ pub record Crash : Type 0 where
 abbrev pub between_calls : World → ℕ → Crash
 between_calls world pick = record { disk = world.disk; said = world.streams.said; pick = pick }
 
--- a call on the files is found undone or done, whether it failed or not
+-- a sync takes images away; every other call leaves those from before it too
+abbrev pub is_sync : Call → Bool
+is_sync (make path) = false
+is_sync (make_dir path) = false
+is_sync (write_at path place bytes) = false
+is_sync (cut path l) = false
+is_sync (sync path) = true
+is_sync (rename from to) = false
+is_sync (remove_at path) = false
+is_sync (sync_dir dir) = true
+
+-- a call on the files is found on that side of it which has the images of both, whether it failed or not
 abbrev pub in_call : Call → World → ℕ → Crash
-in_call call world pick = record { disk = if pick % 2 == 0 then world.disk else after_fitting call world.disk; said = world.streams.said; pick = pick / 2 }
+in_call call world pick = record { disk = if is_sync call then world.disk else after_fitting call world.disk; said = world.streams.said; pick = pick }
 
 -- some of the bytes are said
 abbrev pub in_say : List ℕ → World → ℕ → Crash

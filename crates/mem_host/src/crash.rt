@@ -8,7 +8,7 @@ ghost use Rattle.mem_host.specs.Events.{Event, did};
 ghost use Rattle.mem_host.specs.Replay.{first_world, world_after};
 ghost use Rattle.mem_host.specs.Fitted.{FitsAt, AllFit};
 ghost use Rattle.mem_host.specs.Drafts.{AreDrafts};
-ghost use Rattle.mem_host.specs.Crashes.{Crash as FoundCrash, between_calls, in_call, in_say, in_event, is_call, calls_in, crash_in, bytes_left, image_left};
+ghost use Rattle.mem_host.specs.Crashes.{Crash as FoundCrash, between_calls, in_call, is_sync, in_say, in_event, is_call, calls_in, crash_in, bytes_left, image_left};
 ghost use Rattle.mem_host.specs.Finding.{events_of, Finds, FindsAfter, CanGoOn, AreContents, Holds};
 
 use crate::draft::{Draft, leave_content};
@@ -32,6 +32,17 @@ fn is_call(deed: &Deed) -> bool
         Deed::PutFile(_, _) => false,
         Deed::Found(_) => false,
         _ => true,
+    }
+}
+
+// A sync takes images away; every other call leaves those from before it too.
+fn is_sync(step: &Step) -> bool
+    ensures { result ≡ is_sync (call_of_step step.now) }
+{
+    match step {
+        Step::Sync(_) => true,
+        Step::SyncDir(_) => true,
+        _ => false,
     }
 }
 
@@ -92,15 +103,15 @@ impl<'a> Crash<'a> {
         }
     }
 
-    // Undone or done, as the lowest binary digit tells.
+    // On that side of the call which has the images of both.
     fn stop_in_step(&mut self, alloc: Global, step: &'a Step) -> Result<(), AllocError>
         requires { CanGoOn (did (call_of_step step.now)) self.old }
         ensures { OnOk result ((earlier : List Event) → FitsAt (did (call_of_step step.now)) earlier → FindsAfter self.old earlier → Finds self.new (in_call (call_of_step step.now) (world_after earlier) self.old.pick)) }
     {
-        if self.pick % 2 == 1 {
-            self.remains.step(alloc, step.request())?;
+        if is_sync(step) {
+            return Ok(());
         }
-        self.pick /= 2;
+        self.remains.step(alloc, step.request())?;
         Ok(())
     }
 

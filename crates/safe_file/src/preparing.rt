@@ -4,7 +4,7 @@ ghost use Rattle.file_model.specs.Paths.{parent, last_part, temporary_of, is_top
 ghost use Rattle.file_model.specs.Reserved.{is_reserved_name};
 ghost use Rattle.file_model.specs.Images.{is_directory, node_at, file};
 ghost use Rattle.file_model.specs.Disk.{seen};
-ghost use Rattle.file_model.specs.Kept.{Keeps, IsHome, IsWritten, Sees};
+ghost use Rattle.file_model.specs.Kept.{KeepsDirectories, Keeps, IsHome, IsWritten, Sees};
 ghost use Rattle.file_model.specs.Histories.{Now, Ran, Ended};
 ghost use Rattle.file_model.specs.Causes.{FileCause, FaultCause};
 
@@ -33,6 +33,7 @@ pub fn prepare<F: Files>(
     ensures obstructed { Now (F.history files.old) (λ w. is_directory (seen w.disk) (temporary_of path.now) ≡ true → IsErr result × (F.history files.new ≡ F.history files.old)) }
     // Nothing is heard or said.
     ensures files { Ran (λ start instant. Unit {0}) (F.history files.old) (F.history files.new) }
+    ensures directories { Ran KeepsDirectories (F.history files.old) (F.history files.new) }
     ensures cause { FaultCause (F.faults files.old) (F.faults files.new) result }
 {
     let pending = match places(alloc, path) {
@@ -59,6 +60,7 @@ fn clear<F: Files>(files: &mut F, temporary: &str) -> Result<(), Failed>
     ensures sees { OnOk result (Ended (Sees (λ q. q ≢ temporary.now)) (F.history files.old) (F.history files.new)) }
     ensures obstructed { Now (F.history files.old) (λ w. is_directory (seen w.disk) temporary.now ≡ true → IsErr result × (F.history files.new ≡ F.history files.old)) }
     ensures files { Ran (λ start instant. Unit {0}) (F.history files.old) (F.history files.new) }
+    ensures directories { Ran KeepsDirectories (F.history files.old) (F.history files.new) }
     ensures cause { FileCause (F.faults files.old) (F.faults files.new) result }
 {
     match files.stat(temporary)? {
@@ -74,6 +76,7 @@ fn fill<F: Files>(files: &mut F, temporary: &str, bytes: &[u8]) -> Result<(), Fa
     ensures instants { Now (F.history files.old) (λ w. IsHome temporary.now w.disk) → Ran (Keeps (λ q. q ≢ temporary.now)) (F.history files.old) (F.history files.new) }
     ensures sees { OnOk result (Ended (Sees (λ q. q ≢ temporary.now)) (F.history files.old) (F.history files.new)) }
     ensures files { Ran (λ start instant. Unit {0}) (F.history files.old) (F.history files.new) }
+    ensures directories { Ran KeepsDirectories (F.history files.old) (F.history files.new) }
     ensures cause { FileCause (F.faults files.old) (F.faults files.new) result }
 {
     files.write_at(temporary, 0, bytes)?;

@@ -4,7 +4,7 @@ ghost use Rattle.file_model.specs.Paths.{parent, temporary_of};
 ghost use Rattle.file_model.specs.Images.{is_directory};
 ghost use Rattle.file_model.specs.Kinds.{IsTarget};
 ghost use Rattle.file_model.specs.Disk.{seen};
-ghost use Rattle.file_model.specs.Kept.{Replaces, HasOnly, IsGone, NonePending, IsWritten, Sees};
+ghost use Rattle.file_model.specs.Kept.{KeepsDirectories, Replaces, HasOnly, IsGone, NonePending, IsWritten, Sees};
 ghost use Rattle.file_model.specs.Histories.{Now, Ran, Ended};
 ghost use Rattle.file_model.specs.Causes.{FileCause};
 
@@ -28,6 +28,7 @@ pub fn publish<F: Files>(files: &mut F, pending: &Pending) -> Result<(), Failed>
     ensures sees { OnOk result (Ended (Sees (λ q. (q ≢ temporary_of (string_bytes pending.now.path)) × (q ≢ string_bytes pending.now.path))) (F.history files.old) (F.history files.new)) }
     // Nothing is heard or said.
     ensures files { Ran (λ start instant. Unit {0}) (F.history files.old) (F.history files.new) }
+    ensures directories { Ran KeepsDirectories (F.history files.old) (F.history files.new) }
     ensures cause { FileCause (F.faults files.old) (F.faults files.new) result }
 {
     files.rename(pending.temporary.as_str(), pending.path.as_str())?;

@@ -2,8 +2,7 @@
 use Rattle.std.proofs.Common.{ℕ, ◌<◌, ◌≤◌, length, Bool, false, List, [], ◌++◌, ◌≡◌, refl, sym, ◌∙◌, ap, subst, Result, Ok, Err}
 use Rattle.std.proofs.lemmas.List.{append-nil}
 use Rattle.std.specs.Result.{is_err, OnOk}
-use Rattle.command_lines.specs.Stream.{units_of as line_units}
-use Rattle.command_lines.specs.Taken.{Adds}
+use Rattle.unit_reader.specs.Units.{Adds, UnitsFirst}
 use Rattle.file_model.specs.declared.files.Failed.{Failed}
 use Rattle.file_model.specs.Disk.{Disk}
 use Rattle.file_model.specs.Histories.{History, Now, Passed, Hears, Says}
@@ -121,16 +120,16 @@ pub begins_is : {A : Type 0} {xs ys : List A} → xs ≡ ys → Begins xs ys
 begins_is {xs = xs} is = record { rest = []; is_whole = append-nil xs ∙ is }
 
 -- those that a feed added to none
-pub cut_units : (units_of : List ℕ → List (List ℕ)) (heard piece : List ℕ) (old new units : List (List ℕ)) → units_of ≡ line_units → Adds heard piece old new → old ≡ [] → units ≡ new
+pub cut_units : {U : Type 0} (units_of reader_units : List ℕ → List U) (heard piece : List ℕ) (old new units : List U) → units_of ≡ reader_units → Adds reader_units heard piece old new → old ≡ [] → units ≡ new
     → units_of (heard ++ piece) ≡ units_of heard ++ units
-cut_units units_of heard piece old new units lines adds none are =
-    subst (λ u. u (heard ++ piece) ≡ u heard ++ units) (sym lines)
-    (adds.are_units ∙ ap (λ l. line_units heard ++ l) (sym (are ∙ adds.added ∙ ap (λ l. l ++ adds.more) none)))
+cut_units units_of reader_units heard piece old new units same adds none are =
+    subst (λ u. u (heard ++ piece) ≡ u heard ++ units) (sym same)
+    (adds.are_units ∙ ap (λ l. reader_units heard ++ l) (sym (are ∙ adds.added ∙ ap (λ l. l ++ adds.more) none)))
 
 -- the units of a stream come first in those of a longer one
-pub first_units : (units_of : List ℕ → List (List ℕ)) (stream piece : List ℕ) → units_of ≡ line_units
-    → (more : List (List ℕ)) × (line_units (stream ++ piece) ≡ line_units stream ++ more) → (more : List (List ℕ)) × (units_of (stream ++ piece) ≡ units_of stream ++ more)
-first_units units_of stream piece lines more = subst (λ u. (more : List (List ℕ)) × (u (stream ++ piece) ≡ u stream ++ more)) (sym lines) more
+pub first_units : {U : Type 0} (units_of reader_units : List ℕ → List U) (stream piece : List ℕ) → units_of ≡ reader_units
+    → UnitsFirst reader_units stream piece → (more : List U) × (units_of (stream ++ piece) ≡ units_of stream ++ more)
+first_units {U = U} units_of reader_units stream piece same first = subst (λ u. (more : List U) × (u (stream ++ piece) ≡ u stream ++ more)) (sym same) (first.more, first.are_units)
 
 pub ok_here : {E : Type 0} {P : Type 0} (result : Result (Unit {0}) E) (test : Bool) → test ≡ is_err result → test ≡ false → OnOk result P → P
 ok_here (Ok u) test is none p = p

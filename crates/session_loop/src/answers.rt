@@ -1,6 +1,5 @@
 // What the loop needs of a session.
 ghost use Rattle.std.specs.Prelude.{◌≡◌, ◌∷◌, [], List, ℕ, IfOk, OnOk};
-ghost use Rattle.command_lines.specs.Stream.{units_of, unfinished};
 ghost use Rattle.file_model.specs.Disk.{Disk};
 ghost use Rattle.file_model.specs.Histories.{Now, Passed};
 ghost use Rattle.file_model.specs.Arrived.{Arrived};
@@ -8,8 +7,8 @@ ghost use Rattle.session_loop.specs.Machine.{Protocol, IsKept, SaysSomething};
 ghost use Rattle.session_loop.specs.Instants.{Answering, HasAnswered};
 ghost use Rattle.session_loop.specs.Outcome.{next_of, UnitCause};
 
-use command_lines::Line;
 use file_model::Host;
+use unit_reader::UnitReader;
 
 /// Whether a session goes on.
 #[derive(Clone, Copy, Debug, PartialEq, Eq)]
@@ -27,18 +26,25 @@ pub enum Stop {
 }
 
 pub trait Answers<H: Host> {
+    /// What reads the units that it answers.
+    type Reader: UnitReader;
+
     /// What a session and its files stand for.
     ghost State: { Type 0 };
 
     /// What is said first, what each unit changes and what is said to it, which unit ends the session, and what of a state
     /// has to survive a crash.
-    ghost protocol: { Protocol State (List ℕ) };
+    ghost protocol: { Protocol State Self.Reader.Unit };
 
     /// The session, over a disk, stands for a state.
     ghost stands: { Self → Disk → State → Type 0 };
 
     /// Answers a unit: makes its changes durable, and then says its reply.
-    fn unit(&mut self, host: &mut H, unit: &Line) -> Result<Next, Stop>
+    fn unit(
+        &mut self,
+        host: &mut H,
+        unit: &<Self::Reader as UnitReader>::Unit,
+    ) -> Result<Next, Stop>
         requires { Now (H.history host.old) (λ w. (state : State) × stands self.old w.disk state) }
         ensures next { IfOk result (λ next. next ≡ next_of (protocol.is_last unit.now)) }
         ensures instants { (state : State) → Now (H.history host.old) (λ w. stands self.old w.disk state)
@@ -48,8 +54,8 @@ pub trait Answers<H: Host> {
         ensures stands { OnOk result (Now (H.history host.new) (λ w. (state : State) × stands self.new w.disk state)) }
         ensures cause { UnitCause (H.faults host.old) (H.faults host.new) result };
 
-    /// The units are those of the grammar.
-    ghost of_grammar: { (protocol.units_of ≡ units_of) × (protocol.unfinished ≡ unfinished) };
+    /// The units are those of its reader.
+    ghost of_grammar: { (protocol.units_of ≡ Self.Reader.units_of) × (protocol.unfinished ≡ Self.Reader.unfinished) };
 
     ghost is_kept: { IsKept protocol };
 

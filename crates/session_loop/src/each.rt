@@ -7,14 +7,14 @@ ghost use Rattle.session_loop.specs.Instants.{Answering, HasAnswered};
 ghost use Rattle.session_loop.specs.Outcome.{next_of, UnitCause};
 
 use crate::answers::{Answers, Next, Stop};
-use command_lines::Line;
 use file_model::Host;
+use unit_reader::UnitReader;
 
 /// Answers units in order, up to one that ends the session.
 pub fn answer_each<H: Host, S: Answers<H>>(
     session: &mut S,
     host: &mut H,
-    units: &[Line],
+    units: &[<S::Reader as UnitReader>::Unit],
 ) -> Result<Next, Stop>
     requires { Now (H.history host.old) (λ w. (state : S.State) × S.stands session.old w.disk state) }
     ensures next { IfOk result (λ next. next ≡ next_of (has_last S.protocol.is_last units.now)) }

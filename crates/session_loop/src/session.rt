@@ -1,6 +1,5 @@
 // A whole session.
 ghost use Rattle.std.specs.Prelude.{◌≡◌, ◌<◌, ◌≤◌, ◌⊎◌, ◌++◌, List, ℕ, Bool, [], false, length, take};
-ghost use Rattle.command_lines.specs.Taken.{HasTaken};
 ghost use Rattle.std.specs.List.{Contains};
 ghost use Rattle.file_model.specs.Images.{Image};
 ghost use Rattle.file_model.specs.Disk.{MayLeave};
@@ -14,9 +13,9 @@ ghost use Rattle.session_loop.specs.Outcome.{EndCause, IsFault};
 use crate::answers::Answers;
 use crate::end::{End, Turn};
 use crate::turn::turn;
-use command_lines::{Feed, Line};
 use file_model::Host;
 use std::alloc::Global;
+use unit_reader::UnitReader;
 
 /// The most bytes that a session hears.
 const MOST_HEARD: u64 = 1 << 40;
@@ -63,29 +62,29 @@ pub fn serve<H: Host, S: Answers<H>>(
     ensures cause { EndCause (H.faults host.old) (H.faults host.new) result }
 {
     let mut buffer = [0; ROOM];
-    let mut feed = Feed::new(alloc);
+    let mut reader = S::Reader::begin(alloc);
     let mut units = Vec::new(alloc);
     if host.say(greeting).is_err() {
         return End::SayFault;
     }
-    converse(session, host, &mut feed, &mut units, &mut buffer)
+    converse(session, host, &mut reader, &mut units, &mut buffer)
 }
 
 // Hears and answers.
 fn converse<H: Host, S: Answers<H>>(
     session: &mut S,
     host: &mut H,
-    feed: &mut Feed,
-    units: &mut Vec<Line>,
+    reader: &mut S::Reader,
+    units: &mut Vec<<S::Reader as UnitReader>::Unit>,
     buffer: &mut [u8],
 ) -> End
     requires room { 0 < length buffer.old }
     requires stands { Now (H.history host.old) (λ w. (state : S.State) × S.stands session.old w.disk state) }
-    ensures instants { (first : History) (state : S.State) → HasTaken feed.old []
+    ensures instants { (first : History) (state : S.State) → S.Reader.has_taken reader.old []
         → Passed (Serving S.protocol state) first (H.history host.old)
         → Arrived (HasServed S.protocol (S.stands session.old) state [] (commands_in S.protocol []) false) first (H.history host.old)
         → Passed (Serving S.protocol state) first (H.history host.new) }
-    ensures ends { (first : History) (state : S.State) → HasTaken feed.old []
+    ensures ends { (first : History) (state : S.State) → S.Reader.has_taken reader.old []
         → Arrived (HasServed S.protocol (S.stands session.old) state [] (commands_in S.protocol []) false) first (H.history host.old)
         → IsFault result ⊎ EndsAs S.protocol (S.stands session.new) state result first (H.history host.new) }
     ensures cause { EndCause (H.faults host.old) (H.faults host.new) result }
@@ -93,7 +92,7 @@ fn converse<H: Host, S: Answers<H>>(
     let mut left = MOST_HEARD;
     while left > 0 {
         let room = room_of(left, buffer.len());
-        match turn(session, host, feed, units, &mut buffer[..room]) {
+        match turn(session, host, reader, units, &mut buffer[..room]) {
             Turn::Goes(count) => left -= count as u64,
             Turn::Over(end) => return end,
         }

@@ -5,6 +5,8 @@ use Rattle.file_model.proofs.Runs.{now_both}
 use Rattle.file_model.proofs.Calls.{ran_make, ran_cut, sees_ok_make}
 use Rattle.file_model.proofs.InPlace.{Shows, stat_shows, stat_apart, owns_any, ok_cut_shows, ok_make_shows, ok_cut_home, ok_make_home, sees_cut}
 use Rattle.safe_file.proofs.OnFiles.{files_cut, files_make}
+use Rattle.file_model.specs.Kept.{KeepsDirectories}
+use Rattle.file_model.proofs.FileCalls.{directories_cut, directories_make}
 use Rattle.safe_file.proofs.preparing.clear.Goals as goal
 
 pub returns-in-File-clause-empty : goal.returns-in-File-clause-empty
@@ -56,3 +58,12 @@ returns-in-File-clause-files g c = subst (λ h. Ran (λ start instant. Unit {0})
 
 pub returns-in_default-clause-files : goal.returns-in_default-clause-files
 returns-in_default-clause-files g c = subst (λ h. Ran (λ start instant. Unit {0}) h (g.F.Files.history c.make.new.self)) c.stat.ensures.same (files_make _ _ _ _ c.make.ensures.goes_on)
+
+pub returns-in-File-clause-directories : goal.returns-in-File-clause-directories
+returns-in-File-clause-directories g c =
+    subst (λ h. Ran KeepsDirectories h (g.F.Files.history c.cut.new.self)) c.stat.ensures.same (directories_cut _ _ _ c.args.temporary.now 0 (g.met.F.Files.sound c.stat.new.self) c.cut.ensures.goes_on)
+
+pub returns-in_default-clause-directories : goal.returns-in_default-clause-directories
+returns-in_default-clause-directories g c =
+    subst (λ h. Ran KeepsDirectories h (g.F.Files.history c.make.new.self)) c.stat.ensures.same
+    (directories_make _ _ _ c.args.temporary.now (g.met.F.Files.sound c.stat.new.self) c.make.ensures.obstructed c.make.ensures.goes_on)

@@ -8,6 +8,7 @@ use Rattle.file_model.proofs.Calls.{ok_write, ran_write, ran_sync, ran_keeps, se
 use Rattle.file_model.proofs.InPlace.{owns, shows_file, ok_write_shows, ok_sync_written, sees_write, sees_sync}
 use Rattle.safe_file.proofs.Beside.{written_empty}
 use Rattle.safe_file.proofs.OnFiles.{files_write, files_sync, then_files}
+use Rattle.file_model.proofs.FileCalls.{directories_write, directories_sync, then_keeps}
 use Rattle.safe_file.proofs.preparing.fill.Goals as goal
 
 pub returns-in_err-write_at-clause-instants : goal.returns-in_err-write_at-clause-instants
@@ -43,3 +44,10 @@ returns-in_err-write_at-clause-files g c = files_write _ _ _ c.args.temporary.no
 
 pub returns-clause-files : goal.returns-clause-files
 returns-clause-files g c = then_files _ _ _ (files_write _ _ _ c.args.temporary.now 0 c.args.bytes.now c.write_at.ensures.goes_on) (files_sync _ _ _ _ c.sync.ensures.goes_on)
+
+pub returns-in_err-write_at-clause-directories : goal.returns-in_err-write_at-clause-directories
+returns-in_err-write_at-clause-directories g c = directories_write _ _ _ c.args.temporary.now 0 c.args.bytes.now (g.met.F.Files.sound c.args.files.now) c.write_at.ensures.goes_on
+
+pub returns-clause-directories : goal.returns-clause-directories
+returns-clause-directories g c = then_keeps _ _ _ (directories_write _ _ _ c.args.temporary.now 0 c.args.bytes.now (g.met.F.Files.sound c.args.files.now) c.write_at.ensures.goes_on)
+    (directories_sync _ _ _ _ (g.met.F.Files.sound c.write_at.new.self) c.sync.ensures.goes_on)

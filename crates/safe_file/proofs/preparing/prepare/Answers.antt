@@ -10,6 +10,7 @@ use Rattle.file_model.proofs.Calls.{ran_keeps}
 use Rattle.file_model.proofs.Reserved.{reserved_temporary}
 use Rattle.safe_file.proofs.Beside.{parent_temporary, temporary_below, ok_here}
 use Rattle.safe_file.proofs.OnFiles.{then_files}
+use Rattle.file_model.proofs.FileCalls.{then_keeps}
 use Rattle.safe_file.proofs.preparing.prepare.Goals as goal
 
 pub clear-requires-clause-room : goal.clear-requires-clause-room
@@ -60,3 +61,9 @@ returns-then-is_err-2-clause-files g c = then_files _ _ _ c.clear.ensures.files 
 
 pub returns-clause-files : goal.returns-clause-files
 returns-clause-files g c = then_files _ _ _ c.clear.ensures.files c.fill.ensures.files
+
+pub returns-then-is_err-2-clause-directories : goal.returns-then-is_err-2-clause-directories
+returns-then-is_err-2-clause-directories g c = then_keeps _ _ _ c.clear.ensures.directories c.fill.ensures.directories
+
+pub returns-clause-directories : goal.returns-clause-directories
+returns-clause-directories g c = then_keeps _ _ _ c.clear.ensures.directories c.fill.ensures.directories

@@ -12,6 +12,9 @@ use Rattle.std.proofs.lemmas.Result.{on_ok_weaker}
 use Rattle.file_model.specs.Paths.{temporary_of}
 use Rattle.safe_file.proofs.Beside.{directory_apart, temporary_apart}
 use Rattle.safe_file.proofs.OnFiles.{files_rename, files_sync_dir, then_files}
+use Rattle.std.specs.Prelude.{IsErr}
+use Rattle.file_model.proofs.FileCalls.{directories_move, directories_sync_dir, then_keeps}
+use Rattle.file_model.proofs.Runs.{now_both}
 use Rattle.safe_file.proofs.publishing.publish.Goals as goal
 
 pub returns-in_err-rename-clause-instants : goal.returns-in_err-rename-clause-instants
@@ -66,3 +69,19 @@ returns-in_err-rename-clause-files g c = files_rename _ _ _ _ _ c.rename.ensures
 
 pub returns-clause-files : goal.returns-clause-files
 returns-clause-files g c = then_files _ _ _ (files_rename _ _ _ _ _ c.rename.ensures.goes_on) (files_sync_dir _ _ _ _ c.sync_dir.ensures.goes_on)
+
+pub returns-in_err-rename-clause-directories : goal.returns-in_err-rename-clause-directories
+returns-in_err-rename-clause-directories g c =
+    let path = string_bytes c.args.pending.now.path in
+    let moved = rename_at _ _ _ _ _ (temporary_of path) path (c.as_str.ensures.value ∙ c.args.pending.now.beside) c.as_str-2.ensures.value c.rename.ensures.goes_on in
+    let stops = subst (λ q. Now (g.F.Files.history c.args.files.now) (λ w. is_directory (seen w.disk) q ≡ true → IsErr c.rename.result × (g.F.Files.history c.rename.new.self ≡ g.F.Files.history c.args.files.now))) c.as_str-2.ensures.value c.rename.ensures.obstructed in
+    let does = directories_move c.rename.result _ _ (temporary_of path) path (now_both _ _ _ (g.met.F.Files.sound c.args.files.now) c.requires.written) stops moved in
+    does
+
+pub returns-clause-directories : goal.returns-clause-directories
+returns-clause-directories g c =
+    let path = string_bytes c.args.pending.now.path in
+    let moved = rename_at _ _ _ _ _ (temporary_of path) path (c.as_str.ensures.value ∙ c.args.pending.now.beside) c.as_str-2.ensures.value c.rename.ensures.goes_on in
+    let stops = subst (λ q. Now (g.F.Files.history c.args.files.now) (λ w. is_directory (seen w.disk) q ≡ true → IsErr c.rename.result × (g.F.Files.history c.rename.new.self ≡ g.F.Files.history c.args.files.now))) c.as_str-2.ensures.value c.rename.ensures.obstructed in
+    let does = directories_move c.rename.result _ _ (temporary_of path) path (now_both _ _ _ (g.met.F.Files.sound c.args.files.now) c.requires.written) stops moved in
+    then_keeps _ _ _ does (directories_sync_dir _ _ _ _ (g.met.F.Files.sound c.rename.new.self) c.sync_dir.ensures.goes_on)

@@ -1,17 +1,19 @@
-use Rattle.std.proofs.Common.{◌≡◌, ◌≢◌, true, sym, subst}
+use Rattle.std.proofs.Common.{◌≡◌, ◌≢◌, true, sym, subst, rules}
 use Rattle.file_model.specs.Disk.{seen}
 use Rattle.file_model.specs.Images.{is_directory}
 use Rattle.file_model.specs.Kinds.{IsTarget}
 use Rattle.safe_file.proofs.Beside.{directory_apart}
 use Rattle.std.specs.Prelude.{string_bytes, IsErr}
-use Rattle.file_model.specs.Kept.{Keeps, Replaces, Sees, Replaced, IsWritten, HasOnly}
+use Rattle.file_model.specs.Kept.{Keeps, IsGone, Replaces, Sees, Replaced, IsWritten, HasOnly}
 use Rattle.file_model.specs.Histories.{Now, Ran, Ended}
 use Rattle.file_model.specs.Paths.{parent, temporary_of, IsInDirectory}
 use Rattle.file_model.proofs.Inside.{in_directory}
 use Rattle.file_model.proofs.InPlace.{home_now}
+use Rattle.file_model.proofs.Runs.{now_weaker}
 use Rattle.file_model.proofs.Seen.{directory_on, target_on}
 use Rattle.safe_file.proofs.Whole.{apart, prepared_instants, whole_instants, whole_sees, whole_done, still_obstructed}
 use Rattle.safe_file.proofs.OnFiles.{then_files}
+use Rattle.file_model.proofs.FileCalls.{then_keeps}
 use Rattle.safe_file.proofs.replacing.replace.Goals as goal
 
 pub returns-in_err-pending-clause-instants : goal.returns-in_err-pending-clause-instants
@@ -76,3 +78,17 @@ returns-in-Ok-clause-files g c = then_files _ _ _ c.prepare.ensures.files c.publ
 
 pub returns-clause-files : goal.returns-clause-files
 returns-clause-files g c = then_files _ _ _ c.prepare.ensures.files c.publish.ensures.files
+
+pub returns-in-Ok-clause-directories : goal.returns-in-Ok-clause-directories
+returns-in-Ok-clause-directories g c = then_keeps _ _ _ c.prepare.ensures.directories c.publish.ensures.directories
+
+pub returns-clause-directories : goal.returns-clause-directories
+returns-clause-directories g c = then_keeps _ _ _ c.prepare.ensures.directories c.publish.ensures.directories
+
+pub returns-in-Ok-clause-beside : goal.returns-in-Ok-clause-beside
+returns-in-Ok-clause-beside g c =
+    now_weaker (λ w. is_directory (seen w.disk) (temporary_of c.args.path.now) ≡ true → IsErr c.prepare.result × (g.F.Files.history c.prepare.new.files ≡ g.F.Files.history c.args.files.now)) _
+    (λ w stops here. let failed = (stops here).0 in absurd (search rules)) _ c.prepare.ensures.obstructed
+
+pub returns-in-Ok-clause-gone : goal.returns-in-Ok-clause-gone
+returns-in-Ok-clause-gone g c = subst (λ q. Now (g.F.Files.history c.publish.new.files) (λ w. IsGone (temporary_of q) w.disk)) c.in_ok-pending.ensures.path c.in-Ok.ensures.gone

@@ -1,5 +1,4 @@
 use Rattle.std.proofs.Common.{◌≡◌, ◌+◌, ◌^◌, List, ℕ, [], false, length}
-use Rattle.command_lines.specs.Taken.{HasTaken}
 use Rattle.file_model.specs.Histories.{History, Now, Passed}
 use Rattle.file_model.specs.Arrived.{Arrived}
 use Rattle.session_loop.specs.Machine.{commands_in, is_over}
@@ -15,7 +14,7 @@ invariant-loop-left g l =
     record {
       room : length l.buffer ≡ length l.fn.buffer;
       here : Now (history l.host) (λ w. (state : s.State) × s.stands l.session w.disk state);
-      served : HasTaken l.fn.feed [] → (heard : List ℕ) × HasTaken l.feed heard × (is_over s.protocol heard ≡ false) × (length heard + l.left ≡ 2 ^ 40)
+      served : g.S.Reader.UnitReader.has_taken l.fn.reader [] → (heard : List ℕ) × g.S.Reader.UnitReader.has_taken l.reader heard × (is_over s.protocol heard ≡ false) × (length heard + l.left ≡ 2 ^ 40)
           × ((first : History) (state : s.State)
           → Arrived (HasServed s.protocol (s.stands l.fn.session) state [] (commands_in s.protocol []) false) first (history l.fn.host)
           → Arrived (HasServed s.protocol (s.stands l.session) state heard (commands_in s.protocol heard) false) first (history l.host))

@@ -1,7 +1,5 @@
 use Rattle.std.proofs.Common.{◌≡◌, inr, ◌++◌, ◌+◌, ◌≤◌, length-append, List, ℕ, true, false, [], length, take, ap, sym, ◌∙◌, subst, refl, Ok, Err, arith, ◌<◌, ◌&&◌, ◌==◌, nat_lt}
 use Rattle.std.proofs.lemmas.List.{append-nil}
-use Rattle.command_lines.specs.Stream.{unfinished}
-use Rattle.command_lines.specs.Taken.{HasTaken}
 use Rattle.file_model.specs.Arrived.{Begins, Arrived, gives_end}
 use Rattle.session_loop.specs.Machine.{Protocol, commands_in, is_over}
 use Rattle.session_loop.specs.Instants.{HasServed, most_heard}
@@ -15,7 +13,7 @@ use Rattle.session_loop.proofs.Turns.{no_long, hear_passed, hear_arrived, longer
 use Rattle.session_loop.proofs.turn.turn.Goals as goal
 
 -- nothing more was heard
-nothing_more : {S : Type 0} (p : Protocol S (List ℕ)) (heard : List ℕ) → Begins (commands_in p heard) (commands_in p (heard ++ []))
+nothing_more : {S U : Type 0} (p : Protocol S U) (heard : List ℕ) → Begins (commands_in p heard) (commands_in p (heard ++ []))
 nothing_more p heard = subst (λ l. Begins (commands_in p heard) (commands_in p l)) (sym (append-nil heard)) (begins_refl (commands_in p heard))
 
 no_end : (n room : ℕ) → (n ≡ 0 → ⊥) → gives_end (Ok n) room ≡ false
@@ -70,7 +68,7 @@ returns-then-count-eq0-clause-over g c first state heard end taken none few over
       heard,
       true,
       subst (λ l. Arrived (HasServed s.protocol (s.stands c.args.session.now) state l (commands_in s.protocol heard) true) first (g.H.Files.history c.hear.new.self)) (append-nil heard) here,
-      end_is over ∙ c.end_here.ensures.end heard taken ∙ ap (λ b. regular_end b true (unfinished heard)) (sym none)
+      end_is over ∙ c.end_here.ensures.end heard taken ∙ ap (λ b. regular_end b true (g.S.Reader.UnitReader.unfinished heard)) (sym none)
           ∙ ap (λ rest. regular_end (is_over s.protocol heard) true (rest heard)) (sym g.met.S.Answers.of_grammar.1),
       no_long end heard (λ is. c.end_here.ensures.not_long (sym (end_is over) ∙ is)),
     )
@@ -101,7 +99,7 @@ returns-clause-instants g c first state heard taken none few one at =
 pub returns-clause-taken : goal.returns-clause-taken
 returns-clause-taken g c heard n taken none goes =
     let piece = same_piece n c.in-Ok.count c.hear.new.buf (c.answer_piece.ensures.whole n goes) in
-    subst (λ p. HasTaken c.answer_piece.new.feed (heard ++ p) × (is_over g.S.Answers.protocol (heard ++ p) ≡ false)) piece (c.answer_piece.ensures.taken heard n taken none goes)
+    subst (λ p. g.S.Reader.UnitReader.has_taken c.answer_piece.new.reader (heard ++ p) × (is_over g.S.Answers.protocol (heard ++ p) ≡ false)) piece (c.answer_piece.ensures.taken heard n taken none goes)
 
 pub returns-clause-goes : goal.returns-clause-goes
 returns-clause-goes g c first state heard n taken none few goes at =
