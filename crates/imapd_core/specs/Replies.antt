@@ -74,7 +74,7 @@ abbrev pub protocol : Protocol State (List ℕ)
 protocol = record {
   units_of = units_of;
   unfinished = unfinished;
-  greeting = greeting;
+  greeting = λ state. greeting;
   step = step;
   is_last = ends;
   alike = IsAlike;

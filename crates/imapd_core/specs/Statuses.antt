@@ -19,6 +19,18 @@ use Rattle.imapd_core.specs.declared.server.Status.TheVariants.{Done, Cut, Words
 use Rattle.imapd_core.specs.Replies.{greeting, step, ends, protocol}
 use Rattle.imapd_core.specs.Server.{inbox_of, first_node, first_state}
 
+-- the exit status of the program
+abbrev pub number_of : Status → ℕ
+number_of Done = 0
+number_of Cut = 1
+number_of Words = 2
+number_of HearFault = 3
+number_of SayFault = 4
+number_of Memory = 5
+number_of FileFault = 6
+number_of Long = 7
+
+-- the status of each end of the loop
 abbrev pub status_of_end : End → Status
 status_of_end End-Done = Done
 status_of_end End-Cut = Cut
@@ -28,6 +40,7 @@ status_of_end End-SayFault = SayFault
 status_of_end End-FileFault = FileFault
 status_of_end End-Memory = Memory
 
+-- the status where no session began
 abbrev pub status_of_none : NoSession → Status
 status_of_none No-Words = Words
 status_of_none No-FileFault = FileFault
@@ -71,6 +84,7 @@ pub record IsServedAs (root : List ℕ) (status : Status) (start world : World) 
   pub is_status : start.streams.ended ≡ false → status ≡ regular_status (has_last ends (units_of (heard_since start world))) world.streams.ended (unfinished (heard_since start world))
   pub is_long : status ≡ Long → length (heard_since start world) ≡ 2 ^ 40
 
+-- the statuses of a failed call
 abbrev pub is_failed_status : Status → Bool
 is_failed_status HearFault = true
 is_failed_status SayFault = true

@@ -6,7 +6,7 @@ ghost use Rattle.file_model.specs.Histories.{Now, Passed};
 ghost use Rattle.file_model.specs.Arrived.{Arrived, IsSaying, HasSaid};
 ghost use Rattle.session_loop.specs.Outcome.{UnitCause, next_of};
 ghost use Rattle.imapd_core.specs.Replies.{State, StandsFor, step, protocol, counted_at, status_reply};
-ghost use Rattle.imapd_core.specs.Laws.{of_grammar, is_kept, says_something};
+ghost use Rattle.imapd_core.specs.Laws.{of_grammar, is_kept};
 ghost use Rattle.imapd_core.specs.Lines.{is_logout};
 
 use crate::line::{Command, read_command, reply_tag};
@@ -50,8 +50,6 @@ impl<H: Host> Answers<H> for Inbox {
     ghost of_grammar = { of_grammar };
 
     ghost is_kept = { is_kept };
-
-    ghost says_something = { says_something };
 
     fn unit(&mut self, host: &mut H, unit: &Line) -> Result<Next, Stop> {
         let line = unit.as_slice();

@@ -9,7 +9,7 @@ ghost use Rattle.file_model.specs.Arrived.{Arrived, worlds_since};
 ghost use Rattle.session_loop.specs.Headline.{SaysReplies, IsBounded};
 ghost use Rattle.imapd_core.specs.Replies.{protocol};
 ghost use Rattle.imapd_core.specs.Server.{inbox_of, first_state, is_word, IsSettled};
-ghost use Rattle.imapd_core.specs.Statuses.{status_of_end, status_of_none, StatusCause, WasServed, HasRoot, IsServedAs};
+ghost use Rattle.imapd_core.specs.Statuses.{number_of, status_of_end, status_of_none, StatusCause, WasServed, HasRoot, IsServedAs};
 
 use crate::opening::{NoSession, open};
 use file_model::Host;
@@ -37,7 +37,9 @@ pub enum Status {
 }
 
 impl Status {
-    pub fn number(self) -> u8 {
+    pub fn number(self) -> u8
+        ensures { result ≡ number_of self }
+    {
         match self {
             Status::Done => 0,
             Status::Cut => 1,

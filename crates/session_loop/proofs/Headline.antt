@@ -31,19 +31,19 @@ over n m k is = omega arith
 -- as a `hear` began, what was said were the replies to all that was heard, and the session went on
 abbrev IsAtOnce : {S U : Type 0} → Protocol S U → S → World → List ℕ → List ℕ → ℕ × ℕ → Type 0
 IsAtOnce p state start heard said turn =
-    (take (turn.1 - length start.streams.said) said ≡ p.greeting ++ replies p.step state (commands_in p (take (turn.0 - length start.streams.heard) heard)))
+    (take (turn.1 - length start.streams.said) said ≡ p.greeting state ++ replies p.step state (commands_in p (take (turn.0 - length start.streams.heard) heard)))
     × (is_over p (take (turn.0 - length start.streams.heard) heard) ≡ false)
 
 turn_plain : {S U : Type 0} (p : Protocol S U) (state : S) (start : World) (heard said : List ℕ) (turn : ℕ × ℕ)
     → IsTurn p state start heard said turn
-    → (take (turn.1 - length start.streams.said) said ≡ p.greeting ++ replies p.step state (commands_in p (take (turn.0 - length start.streams.heard) heard)))
+    → (take (turn.1 - length start.streams.said) said ≡ p.greeting state ++ replies p.step state (commands_in p (take (turn.0 - length start.streams.heard) heard)))
     × (is_over p (take (turn.0 - length start.streams.heard) heard) ≡ false)
 turn_plain p state start heard said turn is =
-    let then = p.greeting ++ replies p.step state (commands_in p is.heard_then) in
+    let then = p.greeting state ++ replies p.step state (commands_in p is.heard_then) in
     let h : turn.0 - length start.streams.heard ≡ length is.heard_then = over turn.0 (length start.streams.heard) (length is.heard_then) (is.is_heard ∙ length-append start.streams.heard is.heard_then) in
     let s : turn.1 - length start.streams.said ≡ length then = over turn.1 (length start.streams.said) (length then) (is.is_said ∙ length-append start.streams.said then) in
     let front = sym (ap (λ n. take n heard) h ∙ front_of is.heard_then heard is.heard_front) in (
-      ap (λ n. take n said) s ∙ front_of then said is.said_front ∙ ap (λ l. p.greeting ++ replies p.step state (commands_in p l)) front,
+      ap (λ n. take n said) s ∙ front_of then said is.said_front ∙ ap (λ l. p.greeting state ++ replies p.step state (commands_in p l)) front,
       subst (λ l. is_over p l ≡ false) front is.goes_on,
     )
 
@@ -61,8 +61,8 @@ says_replies p state start world is =
     let s = behind start.streams.said is.said world.streams.said is.is_said in
     let t = behind start.streams.turns is.turns.more world.streams.turns is.turns.are_more in
     record {
-      part = subst (λ l. Begins l (p.greeting ++ replies p.step state (commands p start world))) (sym s)
-          (subst (λ l. Begins is.said (p.greeting ++ replies p.step state (commands_in p l))) (sym h) is.is_part);
+      part = subst (λ l. Begins l (p.greeting state ++ replies p.step state (commands p start world))) (sym s)
+          (subst (λ l. Begins is.said (p.greeting state ++ replies p.step state (commands_in p l))) (sym h) is.is_part);
       at_once = subst (λ turns. AllByRecursion (IsAtOnce p state start (heard_since start world) (said_since start world)) turns) (sym t)
           (subst (λ l. AllByRecursion (IsAtOnce p state start (heard_since start world) l) is.turns.more) (sym s)
           (subst (λ l. AllByRecursion (IsAtOnce p state start l is.said) is.turns.more) (sym h)
@@ -83,9 +83,9 @@ pub is_served : {S U : Type 0} (p : Protocol S U) (stands : Disk → S → Type 
     → IsServed p stands state end start world
 is_served p stands state end heard ended start world ends long is =
     let h : heard ≡ heard_since start world = sym (behind start.streams.heard heard world.streams.heard is.is_heard) in
-    let s = behind start.streams.said (p.greeting ++ replies p.step state (commands_in p heard)) world.streams.said is.is_said in
+    let s = behind start.streams.said (p.greeting state ++ replies p.step state (commands_in p heard)) world.streams.said is.is_said in
     record {
-      said = s ∙ ap (λ l. p.greeting ++ replies p.step state (commands_in p l)) h;
+      said = s ∙ ap (λ l. p.greeting state ++ replies p.step state (commands_in p l)) h;
       is_state = subst (λ l. stands world.disk (state_after p.step state (commands_in p l))) h is.is_state;
       still_alike = λ same. subst (λ l. p.alike (state_after p.step state (commands_in p l)) world.disk) h (is.still_alike same);
       is_end = λ open_before. ends ∙ ap (λ l. regular_end (is_over p l) ended (p.unfinished l)) h
@@ -138,15 +138,15 @@ found_length start said bytes k is = let e = ap length is ∙ length-append star
 
 -- no more replies were said than those to the units that survive
 pub no_more : {S U : Type 0} (p : Protocol S U) (state : S) (done rest all : List U) (said found : List ℕ) (m : ℕ) → SaysSomething p
-    → done ++ rest ≡ all → Begins said (p.greeting ++ replies p.step state done) → length found ≤ length said
-    → m ≤ length all → Begins (p.greeting ++ replies p.step state (take m all)) found → m ≤ length done
+    → done ++ rest ≡ all → Begins said (p.greeting state ++ replies p.step state done) → length found ≤ length said
+    → m ≤ length all → Begins (p.greeting state ++ replies p.step state (take m all)) found → m ≤ length done
 no_more p state done rest all said found m says whole part short within are =
     ⊎_elim (λ past.
     let more = more_replies p.step state done rest m says past (subst (λ l. m ≤ length l) (sym whole) within) in
     let a = begins_length part in
     let b = begins_length are in
-    let e = length-append p.greeting (replies p.step state done) in
-    let f = length-append p.greeting (replies p.step state (take m all)) in
+    let e = length-append (p.greeting state) (replies p.step state done) in
+    let f = length-append (p.greeting state) (replies p.step state (take m all)) in
     let g = ap (λ l. length (replies p.step state (take m l))) whole in
     absurd (omega (arith, more, a, b, e, f, g, short)))
     (λ is. is) (cases_lt (length done) m)
@@ -173,7 +173,7 @@ survives p state start world image k says first same left is =
           no_more p state finds.done goes_on.rest all is.said (drop (length start.streams.said) (take k world.streams.said)) m says goes_on.is_whole finds.are_said
           (found_length start.streams.said is.said world.streams.said k is.is_said)
           (subst (λ l. m ≤ length (commands_in p (l ++ ack.later))) h ack.are_heard)
-          (subst (λ l. Begins (p.greeting ++ replies p.step state (take m (commands_in p (l ++ ack.later)))) (drop (length start.streams.said) (take k world.streams.said))) h ack.are_said);
+          (subst (λ l. Begins (p.greeting state ++ replies p.step state (take m (commands_in p (l ++ ack.later)))) (drop (length start.streams.said) (take k world.streams.said))) h ack.are_said);
     }
 
 -- ---- On histories

@@ -127,9 +127,9 @@ or_false false = refl
 turns_heard : {S U : Type 0} (p : Protocol S U) (stands : Disk → S → Type 0) (state : S) (heard piece : List ℕ) (ends : Bool) (a b c : World)
     → is_over p heard ≡ false
     → HasServed p stands state heard (commands_in p heard) false a b → HasHeard piece ends b c
-    → Turns p state a c (heard ++ piece) (p.greeting ++ replies p.step state (commands_in p heard))
+    → Turns p state a c (heard ++ piece) (p.greeting state ++ replies p.step state (commands_in p heard))
 turns_heard p stands state heard piece ends a b c none one two =
-    let said = p.greeting ++ replies p.step state (commands_in p heard) in
+    let said = p.greeting state ++ replies p.step state (commands_in p heard) in
     let turn : ℕ × ℕ = (length b.streams.heard, length b.streams.said) in
     record {
       more = one.turns.more ++ turn ∷ [];
@@ -175,14 +175,14 @@ heard_instant p stands state heard piece ends a b c law none few begins one two 
   heard = heard ++ piece;
   is_heard = two.heard ∙ ap (λ l. l ++ piece) one.is_heard ∙ append_assoc a.streams.heard heard piece;
   few = few;
-  said = p.greeting ++ replies p.step state (commands_in p heard);
+  said = p.greeting state ++ replies p.step state (commands_in p heard);
   is_said = two.said ∙ one.is_said;
-  is_part = begins_behind p.greeting (replies_begin p.step state begins);
+  is_part = begins_behind (p.greeting state) (replies_begin p.step state begins);
   turns = turns_heard p stands state heard piece ends a b c none one two;
   crash = λ same image left. record {
     done = commands_in p heard;
     are_done = begins;
-    are_said = begins_refl (p.greeting ++ replies p.step state (commands_in p heard));
+    are_said = begins_refl (p.greeting state ++ replies p.step state (commands_in p heard));
     agreed = law b.disk (state_after p.step state (commands_in p heard)) (one.still_alike same) image (subst (λ d. MayLeave d image) two.disk left);
   };
 }
@@ -195,18 +195,18 @@ served_answering p stands state heard units more over a b c begins one two = rec
   heard = heard;
   is_heard = two.heard ∙ one.is_heard;
   few = one.few;
-  said = p.greeting ++ replies p.step state units ++ two.part;
-  is_said = two.is_said ∙ ap (λ l. l ++ two.part) one.is_said ∙ append_assoc a.streams.said (p.greeting ++ replies p.step state units) two.part;
-  is_part = subst (λ l. Begins l (p.greeting ++ replies p.step state (commands_in p heard))) (sym (append_assoc p.greeting (replies p.step state units) two.part))
-      (begins_behind p.greeting (begins_trans (subst (λ l. Begins (replies p.step state units ++ two.part) l) (sym (replies_append p.step state units more)) (begins_behind (replies p.step state units) two.is_part)) (replies_begin p.step state begins)));
-  turns = turns_later p state a b c heard heard _ _ two.turns (begins_refl heard) (begins_append (p.greeting ++ replies p.step state units) two.part) one.turns;
-  crash = λ same image left. finds_then p state units more (commands_in p heard) p.greeting two.part image begins (two.crash (one.still_alike same) image left);
+  said = p.greeting state ++ replies p.step state units ++ two.part;
+  is_said = two.is_said ∙ ap (λ l. l ++ two.part) one.is_said ∙ append_assoc a.streams.said (p.greeting state ++ replies p.step state units) two.part;
+  is_part = subst (λ l. Begins l (p.greeting state ++ replies p.step state (commands_in p heard))) (sym (append_assoc (p.greeting state) (replies p.step state units) two.part))
+      (begins_behind (p.greeting state) (begins_trans (subst (λ l. Begins (replies p.step state units ++ two.part) l) (sym (replies_append p.step state units more)) (begins_behind (replies p.step state units) two.is_part)) (replies_begin p.step state begins)));
+  turns = turns_later p state a b c heard heard _ _ two.turns (begins_refl heard) (begins_append (p.greeting state ++ replies p.step state units) two.part) one.turns;
+  crash = λ same image left. finds_then p state units more (commands_in p heard) (p.greeting state) two.part image begins (two.crash (one.still_alike same) image left);
 }
 
 further : {S U : Type 0} (p : Protocol S U) (state : S) (units more : List U)
-    → p.greeting ++ replies p.step state units ++ replies p.step (state_after p.step state units) more ≡ p.greeting ++ replies p.step state (units ++ more)
+    → p.greeting state ++ replies p.step state units ++ replies p.step (state_after p.step state units) more ≡ p.greeting state ++ replies p.step state (units ++ more)
 further p state units more =
-    append_assoc p.greeting (replies p.step state units) (replies p.step (state_after p.step state units) more) ∙ ap (λ l. p.greeting ++ l) (sym (replies_append p.step state units more))
+    append_assoc (p.greeting state) (replies p.step state units) (replies p.step (state_after p.step state units) more) ∙ ap (λ l. p.greeting state ++ l) (sym (replies_append p.step state units more))
 
 -- more units were answered
 pub served_answered : {S U : Type 0} (p : Protocol S U) (before stands : Disk → S → Type 0) (state : S) (heard : List ℕ) (units more all : List U) (over : Bool) (a b c : World)
@@ -219,9 +219,9 @@ served_answered p before stands state heard units more all over a b c whole one 
       is_heard = two.heard ∙ one.is_heard;
       few = one.few;
       all_heard = λ open_still. subst (λ l. AllByRecursion (λ turn. turn.0 < length l) one.turns.more) (sym two.heard) (one.all_heard open_still);
-      is_said = two.said ∙ ap (λ l. l ++ replies p.step (state_after p.step state units) more) one.is_said ∙ append_assoc a.streams.said (p.greeting ++ replies p.step state units) (replies p.step (state_after p.step state units) more)
+      is_said = two.said ∙ ap (λ l. l ++ replies p.step (state_after p.step state units) more) one.is_said ∙ append_assoc a.streams.said (p.greeting state ++ replies p.step state units) (replies p.step (state_after p.step state units) more)
           ∙ ap (λ l. a.streams.said ++ l) (further p state units more);
-      turns = turns_later p state a b c heard heard (p.greeting ++ replies p.step state units) (p.greeting ++ replies p.step state (units ++ more)) two.turns (begins_refl heard)
+      turns = turns_later p state a b c heard heard (p.greeting state ++ replies p.step state units) (p.greeting state ++ replies p.step state (units ++ more)) two.turns (begins_refl heard)
           (record { rest = replies p.step (state_after p.step state units) more; is_whole = further p state units more }) one.turns;
       is_state = subst (stands c.disk) (sym (state_append p.step state units more)) two.is_state;
       still_alike = λ same. subst (λ s. p.alike s c.disk) (sym (state_append p.step state units more)) (two.still_alike (one.still_alike same));
@@ -251,12 +251,12 @@ opening_instant p state a b one =
       few = none_few;
       said = [];
       is_said = one.is_said ∙ ap (λ l. a.streams.said ++ l) none;
-      is_part = begins_none (p.greeting ++ replies p.step state (commands_in p []));
+      is_part = begins_none (p.greeting state ++ replies p.step state (commands_in p []));
       turns = record { more = []; are_more = one.turns ∙ sym (append-nil a.streams.turns); each = tt; each_hears = tt };
       crash = λ same image left. let finds = one.crash same image left in record {
         done = [];
         are_done = begins_none (commands_in p []);
-        are_said = begins_none (p.greeting ++ []);
+        are_said = begins_none (p.greeting state ++ []);
         agreed = subst (λ us. p.agrees (state_after p.step state us) image) (nothing_said finds.done finds.are_done) finds.agreed;
       };
     }
@@ -264,33 +264,33 @@ opening_instant p state a b one =
 -- an instant of the greeting
 pub greeting_instant : {S U : Type 0} (p : Protocol S U) (stands : Disk → S → Type 0) (state : S) (a b c : World)
     → IsKept p
-    → HasAnswered {S = S} {U = U} p stands state [] a b → IsSaying p.greeting b c → Serving p state a c
+    → HasAnswered {S = S} {U = U} p stands state [] a b → IsSaying (p.greeting state) b c → Serving p state a c
 greeting_instant p stands state a b c law open_here one = record {
   heard = [];
   is_heard = one.heard ∙ open_here.heard ∙ sym (append-nil a.streams.heard);
   few = none_few;
   said = one.part;
   is_said = one.is_said ∙ ap (λ l. l ++ one.part) (open_here.said ∙ append-nil a.streams.said);
-  is_part = begins_trans one.is_part (begins_append p.greeting (replies p.step state (commands_in p [])));
+  is_part = begins_trans one.is_part (begins_append (p.greeting state) (replies p.step state (commands_in p [])));
   turns = record { more = []; are_more = one.turns ∙ open_here.turns ∙ sym (append-nil a.streams.turns); each = tt; each_hears = tt };
   crash = λ same image left. record {
     done = [];
     are_done = begins_none (commands_in p []);
-    are_said = begins_trans one.is_part (begins_append p.greeting []);
+    are_said = begins_trans one.is_part (begins_append (p.greeting state) []);
     agreed = law b.disk state (open_here.still_alike same) image (subst (λ d. MayLeave d image) one.disk left);
   };
 }
 
 -- the greeting was said
 pub greeting_said : {S U : Type 0} (p : Protocol S U) (stands : Disk → S → Type 0) (state : S) (a b c : World)
-    → p.units_of [] ≡ [] → HasAnswered {S = S} {U = U} p stands state [] a b → HasSaid p.greeting b c → HasServed p stands state [] (commands_in p []) false a c
+    → p.units_of [] ≡ [] → HasAnswered {S = S} {U = U} p stands state [] a b → HasSaid (p.greeting state) b c → HasServed p stands state [] (commands_in p []) false a c
 greeting_said p stands state a b c none open_here one =
     subst (λ us. HasServed p stands state [] us false a c) (sym (ap (answered p.is_last) none)) (record {
       is_heard = one.heard ∙ open_here.heard ∙ sym (append-nil a.streams.heard);
       few = none_few;
       all_heard = λ open_still. tt;
       is_over = one.ended ∙ open_here.ended ∙ or_false a.streams.ended;
-      is_said = one.said ∙ ap (λ l. l ++ p.greeting) (open_here.said ∙ append-nil a.streams.said) ∙ ap (λ l. a.streams.said ++ l) (sym (append-nil p.greeting));
+      is_said = one.said ∙ ap (λ l. l ++ (p.greeting state)) (open_here.said ∙ append-nil a.streams.said) ∙ ap (λ l. a.streams.said ++ l) (sym (append-nil (p.greeting state)));
       turns = record { more = []; are_more = one.turns ∙ open_here.turns ∙ sym (append-nil a.streams.turns); each = tt; each_hears = tt };
       is_state = subst (λ d. stands d state) (sym one.disk) open_here.is_state;
       still_alike = λ same. subst (p.alike state) (sym one.disk) (open_here.still_alike same);

@@ -18,12 +18,12 @@ commands p start world = commands_in p (heard_since start world)
 abbrev pub RepliesAtOnce : {S U : Type 0} → Protocol S U → S → World → World → Type 0
 RepliesAtOnce p state start world =
     AllByRecursion (λ turn. (take (turn.1 - length start.streams.said) (said_since start world)
-    ≡ p.greeting ++ replies p.step state (commands_in p (take (turn.0 - length start.streams.heard) (heard_since start world))))
+    ≡ p.greeting state ++ replies p.step state (commands_in p (take (turn.0 - length start.streams.heard) (heard_since start world))))
     × (is_over p (take (turn.0 - length start.streams.heard) (heard_since start world)) ≡ false)) (turns_since start world)
 
 -- What was said begins the greeting and the replies to all units heard, and no reply waited for a `hear`.
 pub record SaysReplies {S U : Type 0} (p : Protocol S U) (state : S) (start world : World) : Type 0 where
-  pub part : Begins (said_since start world) (p.greeting ++ replies p.step state (commands p start world))
+  pub part : Begins (said_since start world) (p.greeting state ++ replies p.step state (commands p start world))
   pub at_once : RepliesAtOnce p state start world
 
 -- At most 2^40 bytes were heard, and each turn but the last heard at least one.
@@ -33,7 +33,7 @@ pub record IsBounded (start world : World) : Type 0 where
 
 -- All replies were said, the session stands for the state after all units, and the end is the one that the bytes heard tell.
 pub record IsServed {S U : Type 0} (p : Protocol S U) (stands : Disk → S → Type 0) (state : S) (end : End) (start world : World) : Type 0 where
-  pub said : said_since start world ≡ p.greeting ++ replies p.step state (commands p start world)
+  pub said : said_since start world ≡ p.greeting state ++ replies p.step state (commands p start world)
   pub is_state : stands world.disk (state_after p.step state (commands p start world))
   pub still_alike : p.alike state start.disk → p.alike (state_after p.step state (commands p start world)) world.disk
   pub is_end : start.streams.ended ≡ false → end ≡ regular_end (is_over p (heard_since start world)) world.streams.ended (p.unfinished (heard_since start world))
@@ -43,7 +43,7 @@ pub record IsServed {S U : Type 0} (p : Protocol S U) (stands : Disk → S → T
 pub record IsAcknowledged {S U : Type 0} (p : Protocol S U) (state : S) (heard said : List ℕ) (m : ℕ) : Type 0 where
   pub later : List ℕ
   pub are_heard : m ≤ length (commands_in p (heard ++ later))
-  pub are_said : Begins (p.greeting ++ replies p.step state (take m (commands_in p (heard ++ later)))) said
+  pub are_said : Begins (p.greeting state ++ replies p.step state (take m (commands_in p (heard ++ later)))) said
 
 -- A crash that finds these bytes said leaves what survives the first n units heard, among them all whose replies were said.
 pub record Survives {S U : Type 0} (p : Protocol S U) (state : S) (start world : World) (image : Image) (said : List ℕ) : Type 0 where

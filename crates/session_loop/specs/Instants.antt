@@ -44,8 +44,8 @@ pub record IsTurn {S U : Type 0} (p : Protocol S U) (state : S) (start : World) 
   pub heard_then : List ℕ
   pub is_heard : turn.0 ≡ length (start.streams.heard ++ heard_then)
   pub heard_front : Begins heard_then heard
-  pub is_said : turn.1 ≡ length (start.streams.said ++ (p.greeting ++ replies p.step state (commands_in p heard_then)))
-  pub said_front : Begins (p.greeting ++ replies p.step state (commands_in p heard_then)) said
+  pub is_said : turn.1 ≡ length (start.streams.said ++ (p.greeting state ++ replies p.step state (commands_in p heard_then)))
+  pub said_front : Begins (p.greeting state ++ replies p.step state (commands_in p heard_then)) said
   pub goes_on : is_over p heard_then ≡ false
 
 -- each turn but the last heard a byte: as the next one began, more bytes were heard
@@ -67,17 +67,17 @@ pub record Serving {S U : Type 0} (p : Protocol S U) (state : S) (start world : 
   pub few : length heard ≤ most_heard
   pub said : List ℕ
   pub is_said : world.streams.said ≡ start.streams.said ++ said
-  pub is_part : Begins said (p.greeting ++ replies p.step state (commands_in p heard))
+  pub is_part : Begins said (p.greeting state ++ replies p.step state (commands_in p heard))
   pub turns : Turns p state start world heard said
-  pub crash : p.alike state start.disk → (image : Image) → MayLeave world.disk image → Finds p state (commands_in p heard) p.greeting said image
+  pub crash : p.alike state start.disk → (image : Image) → MayLeave world.disk image → Finds p state (commands_in p heard) (p.greeting state) said image
 
 -- These bytes were heard, and the end or not, and these units were answered. Before the end each turn heard a byte.
 pub record HasServed {S U : Type 0} (p : Protocol S U) (stands : Disk → S → Type 0) (state : S) (heard : List ℕ) (units : List U) (over : Bool) (start world : World) : Type 0 where
   pub is_heard : world.streams.heard ≡ start.streams.heard ++ heard
   pub few : length heard ≤ most_heard
   pub is_over : world.streams.ended ≡ start.streams.ended || over
-  pub is_said : world.streams.said ≡ start.streams.said ++ (p.greeting ++ replies p.step state units)
-  pub turns : Turns p state start world heard (p.greeting ++ replies p.step state units)
+  pub is_said : world.streams.said ≡ start.streams.said ++ (p.greeting state ++ replies p.step state units)
+  pub turns : Turns p state start world heard (p.greeting state ++ replies p.step state units)
   pub all_heard : over ≡ false → AllByRecursion (λ turn. turn.0 < length world.streams.heard) turns.more
   pub is_state : stands world.disk (state_after p.step state units)
   pub still_alike : p.alike state start.disk → p.alike (state_after p.step state units) world.disk

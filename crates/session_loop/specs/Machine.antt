@@ -13,8 +13,8 @@ pub record Protocol (S U : Type 0) : Type 1 where
   -- the units of a stream, and the bytes behind the last of them
   pub units_of : List ℕ → List U
   pub unfinished : List ℕ → List ℕ
-  -- what is said first, what each unit leads to, and which unit ends the session
-  pub greeting : List ℕ
+  -- what is said first over a state, what each unit leads to, and which unit ends the session
+  pub greeting : S → List ℕ
   pub step : S → U → Answered S
   pub is_last : U → Bool
   -- every crash of a disk leaves what has to survive of a state, and it stands in an image

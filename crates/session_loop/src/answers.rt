@@ -3,7 +3,7 @@ ghost use Rattle.std.specs.Prelude.{◌≡◌, ◌∷◌, [], List, ℕ, IfOk, O
 ghost use Rattle.file_model.specs.Disk.{Disk};
 ghost use Rattle.file_model.specs.Histories.{Now, Passed};
 ghost use Rattle.file_model.specs.Arrived.{Arrived};
-ghost use Rattle.session_loop.specs.Machine.{Protocol, IsKept, SaysSomething};
+ghost use Rattle.session_loop.specs.Machine.{Protocol, IsKept};
 ghost use Rattle.session_loop.specs.Instants.{Answering, HasAnswered};
 ghost use Rattle.session_loop.specs.Outcome.{next_of, UnitCause};
 
@@ -32,7 +32,7 @@ pub trait Answers<H: Host> {
     /// What a session and its files stand for.
     ghost State: { Type 0 };
 
-    /// What is said first, what each unit changes and what is said to it, which unit ends the session, and what of a state
+    /// What is said first over a state, what each unit changes and what is said to it, which unit ends the session, and what of a state
     /// has to survive a crash.
     ghost protocol: { Protocol State Self.Reader.Unit };
 
@@ -58,6 +58,4 @@ pub trait Answers<H: Host> {
     ghost of_grammar: { (protocol.units_of ≡ Self.Reader.units_of) × (protocol.unfinished ≡ Self.Reader.unfinished) };
 
     ghost is_kept: { IsKept protocol };
-
-    ghost says_something: { SaysSomething protocol };
 }

@@ -4,13 +4,14 @@ use Rattle.file_model.specs.Histories.{World, Passed, instant}
 use Rattle.file_model.specs.Arrived.{Arrived, worlds_since}
 use Rattle.session_loop.specs.Headline.{SaysReplies, IsBounded}
 use Rattle.imapd_core.specs.Replies.{protocol}
+use Rattle.imapd_core.specs.Laws.{says_something}
 use Rattle.imapd_core.specs.Statuses.{WasServed, IsServedAs}
-use Rattle.imapd_core.proofs.Served.{at_first, crash_left, opening_said, opening_bounded, opening_crash, some_state, opened_at, served_as}
+use Rattle.imapd_core.proofs.Served.{greets, at_first, crash_left, opening_said, opening_bounded, opening_crash, some_state, opened_at, served_as}
 use Rattle.imapd_core.proofs.Settled.{LeavesSince, serving_leaves, session_settled, quiet_settled, settled_since}
 use Rattle.imapd_core.proofs.server.serve_root.Goals as goal
 
 pub serve-requires : goal.serve-requires
-serve-requires g c = record { stands = some_state c.args.root.now (string_bytes c.in-Ok.inbox.path) _ _ c.in-Ok.ensures.path c.in-Ok.ensures.opened; greeting = refl }
+serve-requires g c = record { stands = some_state c.args.root.now (string_bytes c.in-Ok.inbox.path) _ _ c.in-Ok.ensures.path c.in-Ok.ensures.opened; greeting = greets (string_bytes c.in-Ok.inbox.path) _ }
 
 pub returns-in-Ok-clause-said : goal.returns-in-Ok-clause-said
 returns-in-Ok-clause-said g c =
@@ -28,7 +29,7 @@ returns-in-Ok-clause-bounded g c =
 
 pub returns-in-Ok-clause-crash : goal.returns-in-Ok-clause-crash
 returns-in-Ok-clause-crash g c =
-    crash_left c.args.root.now _ _ (λ state is. c.serve.ensures.crash _ state (opened_at c.args.root.now (string_bytes c.in-Ok.inbox.path) state _ _ c.in-Ok.ensures.path (c.in-Ok.ensures.opened state is)))
+    crash_left c.args.root.now _ _ (λ state is. c.serve.ensures.crash _ state says_something (opened_at c.args.root.now (string_bytes c.in-Ok.inbox.path) state _ _ c.in-Ok.ensures.path (c.in-Ok.ensures.opened state is)))
 
 pub returns-in-Ok-clause-served : goal.returns-in-Ok-clause-served
 returns-in-Ok-clause-served g c =
