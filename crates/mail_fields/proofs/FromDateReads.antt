@@ -58,18 +58,28 @@ from-length : (name month day clock year : List ℕ) → length name ≡ 3 → l
     → length ((name ++ codes " " ++ month ++ codes " " ++ day ++ codes " ") ++ clock ++ (codes " " ++ year)) ≡ 24
 from-length name month day clock year n m d c y = omega (arith, length-append {A = ℕ})
 
-pub from-stands : (buffer : List ℕ) (place : ℕ) (stamp : StampParts) → CanStand stamp → stamp.zone_minutes ≡ pos 0 → place ≤ length buffer
-    → from_date_of (take 24 (drop place (written_at buffer place (from_date_text stamp.day stamp.second)))) ≡ Some stamp
+-- a stamp in UTC that can be written
+pub from-reads : (stamp : StampParts) → CanStand stamp → stamp.zone_minutes ≡ pos 0 → from_date_of (from_date_text stamp.day stamp.second) ≡ Some stamp
 unfolding from_date_text
-from-stands buffer place stamp can zone inside =
+from-reads stamp can zone =
     let date = civil_of stamp.day in
-    let text = from_date_text stamp.day stamp.second in
     let name = weekday-reads stamp.day in
     let month = month-reads date.month can.month_low can.month_high in
-    let long : length text ≡ 24 =
-    from-length (weekday_text stamp.day) (month_text date.month) (day_text date.day) (clock_text stamp.second) (digits_in 10 4 date.year)
-    name.1 month.1 (length-day_text date.day) (length-clock stamp.second) refl in
-    ap (λ n. from_date_of (take n (drop place (written_at buffer place text)))) (sym long) ∙ ap from_date_of (read-written buffer text place inside)
-    ∙ from-frame (weekday_text stamp.day) (month_text date.month) (day_text date.day) stamp.second date.year date.month date.day stamp.day
+    from-frame (weekday_text stamp.day) (month_text date.month) (day_text date.day) stamp.second date.year date.month date.day stamp.day
     name.1 month.1 (length-day_text date.day) name.0 month.0 (day-reads date.day can.day) can.second can.year can.valid
     ∙ ap (λ z. Some (record { day = stamp.day; second = stamp.second; zone_minutes = z })) (sym zone)
+
+from-width : (stamp : StampParts) → CanStand stamp → length (from_date_text stamp.day stamp.second) ≡ 24
+unfolding from_date_text
+from-width stamp can =
+    let date = civil_of stamp.day in
+    from-length (weekday_text stamp.day) (month_text date.month) (day_text date.day) (clock_text stamp.second) (digits_in 10 4 date.year)
+    (weekday-reads stamp.day).1 (month-reads date.month can.month_low can.month_high).1 (length-day_text date.day) (length-clock stamp.second) refl
+
+-- and it stands where it was written
+pub from-stands : (buffer : List ℕ) (place : ℕ) (stamp : StampParts) → CanStand stamp → stamp.zone_minutes ≡ pos 0 → place ≤ length buffer
+    → from_date_of (take 24 (drop place (written_at buffer place (from_date_text stamp.day stamp.second)))) ≡ Some stamp
+from-stands buffer place stamp can zone inside =
+    let text = from_date_text stamp.day stamp.second in
+    ap (λ n. from_date_of (take n (drop place (written_at buffer place text)))) (sym (from-width stamp can))
+    ∙ ap from_date_of (read-written buffer text place inside) ∙ from-reads stamp can zone

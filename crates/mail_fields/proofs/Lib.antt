@@ -8,4 +8,5 @@ pub mod Examples
 pub mod FromDateReads
 pub mod ReadBack
 pub mod Spaces
+pub mod StampsAgain
 pub mod Texts

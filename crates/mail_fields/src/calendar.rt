@@ -97,9 +97,6 @@ pub(crate) fn civil_date(stamp: Stamp) -> CivilDate
     ensures day { result.day ≡ (civil_of stamp.day).day }
     ensures month_low { 1 ≤ (civil_of stamp.day).month }
     ensures month_high { (civil_of stamp.day).month ≤ 12 }
-    ensures valid { civil_day_of (civil_of stamp.day).year (civil_of stamp.day).month (civil_of stamp.day).day ≡ Some stamp.day }
-    ensures year_small { (civil_of stamp.day).year < 10000 }
-    ensures day_small { (civil_of stamp.day).day < 100 }
 {
     let date = date_of(stamp.day);
     CivilDate {

@@ -30,7 +30,7 @@ pub use imap_date::{put_imap_date, read_imap_date};
 pub use keyword::{Keyword, Keywords};
 pub use mix_date::{put_mix_date, read_mix_date};
 pub use names::{is_taken, split_at_space};
-pub use number::{put_hex, put_octal, read_decimal, read_hex, read_octal};
+pub use number::{put_decimal, put_hex, put_octal, read_decimal, read_hex, read_octal};
 pub use search_date::read_search_date;
 pub use stamp::Stamp;
 pub use utc::{stamp_of, to_utc};

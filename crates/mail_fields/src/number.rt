@@ -112,6 +112,16 @@ pub fn put_hex(buf: &mut [u8], place: usize, width: usize, n: u64)
     put_digits(16, buf, place, width, n);
 }
 
+/// Writes a number in base 10, with zeros before it up to the width.
+pub fn put_decimal(buf: &mut [u8], place: usize, width: usize, n: u64)
+    requires room { place + width ≤ length buf.old }
+    requires fits { n < 10 ^ width }
+    ensures text { buf.new ≡ written_at buf.old place (digits_in 10 width n) }
+    ensures read { number_at_front 10 width (drop place buf.new) ≡ Some n }
+{
+    put_digits(10, buf, place, width, n);
+}
+
 /// Writes a number in base 8, with zeros before it up to the width.
 pub fn put_octal(buf: &mut [u8], place: usize, width: usize, n: u64)
     requires room { place + width ≤ length buf.old }

@@ -33,21 +33,3 @@ returns-clause-month_high c =
     let number : epoch_day c.date_of-date.result ≡ c.args.stamp.day = omega (arith, signed_casts, c.date_of-date.ensures) in
     let found = date-found c.date_of-date.result c.args.stamp.day number c.args.stamp.day_in.0 in
     omega (arith, found.month, c.date_of-date.result.month_in.1)
-
-pub returns-clause-valid : goal.returns-clause-valid
-returns-clause-valid c =
-    let number : epoch_day c.date_of-date.result ≡ c.args.stamp.day = omega (arith, signed_casts, c.date_of-date.ensures) in
-    let found = date-found c.date_of-date.result c.args.stamp.day number c.args.stamp.day_in.0 in
-    found.valid
-
-pub returns-clause-year_small : goal.returns-clause-year_small
-returns-clause-year_small c =
-    let number : epoch_day c.date_of-date.result ≡ c.args.stamp.day = omega (arith, signed_casts, c.date_of-date.ensures) in
-    let found = date-found c.date_of-date.result c.args.stamp.day number c.args.stamp.day_in.0 in
-    found.year_small
-
-pub returns-clause-day_small : goal.returns-clause-day_small
-returns-clause-day_small c =
-    let number : epoch_day c.date_of-date.result ≡ c.args.stamp.day = omega (arith, signed_casts, c.date_of-date.ensures) in
-    let found = date-found c.date_of-date.result c.args.stamp.day number c.args.stamp.day_in.0 in
-    found.day_small

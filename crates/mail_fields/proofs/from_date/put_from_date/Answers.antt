@@ -3,23 +3,12 @@ use Rattle.std.proofs.lemmas.Grind.{common_steps}
 use Rattle.mail_fields.specs.Texts.{written_at}
 use Rattle.mail_fields.specs.FromDate.{from_date_text}
 use Rattle.mail_fields.specs.Stamps.{parts_of}
-use Rattle.mail_fields.proofs.ReadBack.{CanStand}
 use Rattle.mail_fields.proofs.FromDateReads.{from-stands}
+use Rattle.mail_fields.proofs.StampsAgain.{stamp_stands}
 use Rattle.mail_fields.proofs.from_date.put_from_date.Goals as goal
 
 pub returns-clause-read : goal.returns-clause-read
 unfolding from_date_text
 returns-clause-read c =
-    let date = c.civil_date-date.ensures in
-    let can : CanStand (parts_of c.args.stamp) = record {
-      valid = date.valid;
-      year = date.year_small;
-      month_low = date.month_low;
-      month_high = date.month_high;
-      day = date.day_small;
-      second = c.args.stamp.second_in;
-      zone_low = c.args.stamp.zone_in.0;
-      zone_high = c.args.stamp.zone_in.1;
-    } in
     let text : c.put_parts.new.buf ≡ written_at c.args.buf.now c.args.place (from_date_text c.args.stamp.day c.args.stamp.second) = first_of (search rules, grind (arith, common_steps)) in
-    rw text (from-stands c.args.buf.now c.args.place (parts_of c.args.stamp) can c.requires.utc (omega arith))
+    rw text (from-stands c.args.buf.now c.args.place (parts_of c.args.stamp) (stamp_stands c.args.stamp) c.requires.utc (omega arith))
