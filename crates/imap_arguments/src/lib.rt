@@ -6,6 +6,7 @@ mod flag;
 mod item;
 mod number;
 mod reason;
+mod same;
 mod section;
 mod set;
 mod string;
