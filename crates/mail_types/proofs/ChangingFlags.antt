@@ -84,9 +84,12 @@ module _ {B : Type 0} (f : Record → B) (blind : (r : Record) (c : FlagChange) 
   changed_stays names k cs [] = refl
   changed_stays names k cs (r ∷ rs) = λ j. one_stays names k cs r j ∷ changed_stays names (k + 1) cs rs j
 
--- UIDs and texts are such
+-- UIDs, texts and modification numbers are such
 pub changed_uids : (names k : ℕ) (cs : List FlagChange) (rs : List Record) → map (λ r. r.uid) (changed_records names k cs rs) ≡ map (λ r. r.uid) rs
 changed_uids = changed_stays (λ r. r.uid) (λ r c names. refl)
 
 pub changed_texts : (names k : ℕ) (cs : List FlagChange) (rs : List Record) → map (λ r. r.text) (changed_records names k cs rs) ≡ map (λ r. r.text) rs
 changed_texts = changed_stays (λ r. r.text) (λ r c names. refl)
+
+pub changed_numbers : (names k : ℕ) (cs : List FlagChange) (rs : List Record) → map (λ r. r.number) (changed_records names k cs rs) ≡ map (λ r. r.number) rs
+changed_numbers = changed_stays (λ r. r.number) (λ r c names. refl)

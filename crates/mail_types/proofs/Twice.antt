@@ -64,6 +64,10 @@ stamp_twice Zone stamp = refl
 stamp_twice Second stamp = same_stamp _ _ (utc_twice (parts_of stamp))
 stamp_twice Epoch stamp = refl
 
+number_twice : (has : Bool) (number : ℕ) → cond has (cond has number 0) 0 ≡ cond has number 0
+number_twice true number = refl
+number_twice false number = refl
+
 words_twice : (n words : ℕ) → words_below n (words_below n words) ≡ words_below n words
 words_twice n words = mod-mod words (2 ^ n)
 
@@ -89,6 +93,7 @@ take_twice keeps r = λ k. record {
   stamp = stamp_twice keeps.date r.stamp k;
   flags = r.flags;
   words = words_twice keeps.words r.words k;
+  number = number_twice keeps.numbers r.number k;
 }
 
 pub kept_of_taken : (keeps : Keeps) (r : Record) → kept_record keeps (take_record keeps r) ≡ kept_record keeps r
@@ -101,6 +106,7 @@ kept_twice keeps r = λ k. record {
   stamp = stamp_twice keeps.date r.stamp k;
   flags = flags_twice r.flags keeps.flags k;
   words = words_twice keeps.words r.words k;
+  number = number_twice keeps.numbers r.number k;
 }
 
 -- the same, of a record that is known to be so limited
@@ -115,4 +121,4 @@ kept_stays keeps r kept is = ap (kept_record keeps) is ∙ kept_twice keeps r �
 
 -- what the driver declares passes unchanged
 pub passes : (keeps : Keeps) (r kept : Record) → kept ≡ kept_record keeps r → IsInForm keeps r → kept ≡ r
-passes keeps r kept is form = is ∙ (λ k. record { uid = r.uid; text = form.text k; stamp = form.stamp k; flags = form.flags k; words = form.words k })
+passes keeps r kept is form = is ∙ (λ k. record { uid = r.uid; text = form.text k; stamp = form.stamp k; flags = form.flags k; words = form.words k; number = form.number k })

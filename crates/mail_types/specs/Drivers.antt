@@ -11,12 +11,12 @@ use Rattle.mail_types.specs.declared.flags.Flags.{Flags}
 abbrev pub every_flag : Bool → Flags
 every_flag set = record { seen = set; answered = set; flagged = set; deleted = set; draft = set; old = set }
 
--- one row for each driver: whether UIDs last, how many keywords, the flags, the form of dates, the form of texts
+-- one row for each driver: whether UIDs last, how many keywords, the flags, the form of dates, the form of texts, whether modification numbers
 abbrev pub keeps_of : Driver → Keeps
-keeps_of Unix = record { uids = true; words = 30; flags = every_flag true; date = Second; text = UnixText }
-keeps_of Mmdf = record { uids = true; words = 30; flags = every_flag true; date = Second; text = MmdfText }
-keeps_of Mbx = record { uids = true; words = 30; flags = every_flag true; date = Zone; text = Exact }
-keeps_of Mtx = record { uids = false; words = 0; flags = every_flag true; date = Zone; text = Exact }
-keeps_of Tenex = record { uids = false; words = 0; flags = every_flag true; date = Zone; text = Lines }
-keeps_of Mh = record { uids = false; words = 0; flags = every_flag false; date = Epoch; text = Lines }
-keeps_of Mix = record { uids = true; words = 30; flags = every_flag true; date = Zone; text = Exact }
+keeps_of Unix = record { uids = true; words = 30; flags = every_flag true; date = Second; text = UnixText; numbers = false }
+keeps_of Mmdf = record { uids = true; words = 30; flags = every_flag true; date = Second; text = MmdfText; numbers = false }
+keeps_of Mbx = record { uids = true; words = 30; flags = every_flag true; date = Zone; text = Exact; numbers = false }
+keeps_of Mtx = record { uids = false; words = 0; flags = every_flag true; date = Zone; text = Exact; numbers = false }
+keeps_of Tenex = record { uids = false; words = 0; flags = every_flag true; date = Zone; text = Lines; numbers = false }
+keeps_of Mh = record { uids = false; words = 0; flags = every_flag false; date = Epoch; text = Lines; numbers = false }
+keeps_of Mix = record { uids = true; words = 30; flags = every_flag true; date = Zone; text = Exact; numbers = true }

@@ -1,5 +1,5 @@
 -- A message limited to what a driver declares to keep.
-use Rattle.std.specs.Prelude.{◌≡◌, ℕ, ◌^◌, ◌%◌, List}
+use Rattle.std.specs.Prelude.{◌≡◌, ℕ, ◌^◌, ◌%◌, List, if◌then◌else◌}
 use Rattle.mail_fields.specs.declared.stamp.Stamp.{Stamp}
 use Rattle.text_forms.specs.Forms.{exact_form, lines_form, unix_form, mmdf_form}
 use Rattle.mail_types.specs.declared.driver.DateKeep.{DateKeep}
@@ -28,7 +28,7 @@ text_in_form Mmdf text = mmdf_form text
 abbrev pub words_below : ℕ → ℕ → ℕ
 words_below n words = words % 2 ^ n
 
--- its text and its stamp in the driver's forms, and the keywords that the driver has room for
+-- its text and its stamp in the driver's forms, the keywords that the driver has room for, and its modification number where the driver has them
 abbrev pub take_record : Keeps → Record → Record
 take_record keeps r = record {
   uid = r.uid;
@@ -36,6 +36,7 @@ take_record keeps r = record {
   stamp = stamp_in_form keeps.date r.stamp;
   flags = r.flags;
   words = words_below keeps.words r.words;
+  number = if keeps.numbers then r.number else 0;
 }
 
 -- the same without the flags that the driver doesn't declare
@@ -48,3 +49,4 @@ pub record IsInForm (keeps : Keeps) (r : Record) : Type 0 where
   pub stamp : stamp_in_form keeps.date r.stamp ≡ r.stamp
   pub flags : flags_in_both r.flags keeps.flags ≡ r.flags
   pub words : words_below keeps.words r.words ≡ r.words
+  pub number : (if keeps.numbers then r.number else 0) ≡ r.number

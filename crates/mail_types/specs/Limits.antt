@@ -1,9 +1,8 @@
 -- The limits, as functions of the mailbox.
-use Rattle.std.specs.Prelude.{ℕ, Bool, List, [], ◌∷◌, ◌+◌, ◌&&◌, ◌||◌, nat_lt, false, length, max}
+use Rattle.std.specs.Prelude.{ℕ, Bool, List, [], ◌∷◌, ◌+◌, ◌*◌, ◌&&◌, ◌||◌, nat_lt, false, length, max}
 use Rattle.std.specs.List.{list_any}
 use Rattle.mail_types.specs.declared.contents.Placing.{Placing}
-use Rattle.mail_types.specs.declared.contents.Placing.TheVariants.{InPlace, Numbered, ScannedTo}
-use Rattle.mail_types.specs.declared.contents.StoreContents.{StoreContents}
+use Rattle.mail_types.specs.declared.contents.Placing.TheVariants.{InPlace, Numbered}
 use Rattle.mail_types.specs.declared.driver.Driver.{Driver}
 use Rattle.mail_types.specs.declared.driver.Driver.TheVariants.{Mh, Mix}
 use Rattle.mail_types.specs.declared.mailbox.Mailbox.{Mailbox}
@@ -19,6 +18,7 @@ file_limit = 536870912
 abbrev pub text_limit : ℕ
 text_limit = 16777216
 
+-- so many messages of one mailbox
 abbrev pub record_limit : ℕ
 record_limit = 1048576
 
@@ -34,7 +34,6 @@ lacks_uids m count = nat_lt 0 count && nat_lt greatest_given (m.last + count)
 abbrev pub lacks_numbers : Placing → ℕ → Bool
 lacks_numbers InPlace count = false
 lacks_numbers (Numbered numbers directory) count = nat_lt 0 count && nat_lt number_limit (max (greatest numbers) directory + count)
-lacks_numbers (ScannedTo end) count = false
 
 abbrev pub has_many : List Record → Bool
 has_many records = nat_lt record_limit (length records)
@@ -47,17 +46,12 @@ abbrev pub given_length : List NewMessage → ℕ
 given_length [] = 0
 given_length (new ∷ rest) = length new.text + given_length rest
 
-abbrev pub scan_end : Placing → ℕ
-scan_end InPlace = 0
-scan_end (Numbered numbers directory) = 0
-scan_end (ScannedTo end) = end
-
--- The length of the file that a change leaves, where a limit speaks of it. `written_length` is the length of a driver's one file, for a mailbox.
-abbrev pub file_length : (written_length : Mailbox → ℕ) → Driver → (stored : StoreContents) → (now : Mailbox) → ℕ
-file_length written_length Mh stored now = 0
-file_length written_length Mix stored now = scan_end stored.placing
-file_length written_length driver stored now = written_length now
+-- What the limit of a file speaks of: the one file that a change leaves, by `written_length`, or for mix the new records, each behind a head of 45 bytes.
+abbrev pub file_length : (written_length : Mailbox → ℕ) → Driver → (now : Mailbox) → List NewMessage → ℕ
+file_length written_length Mh now new = 0
+file_length written_length Mix now new = 45 * length new + given_length new
+file_length written_length driver now new = written_length now
 
 -- the new texts, or the file after an append, pass 512 MiB
-abbrev pub is_too_long : (written_length : Mailbox → ℕ) → Driver → (stored : StoreContents) → (now : Mailbox) → List NewMessage → Bool
-is_too_long written_length driver stored now new = nat_lt file_limit (given_length new) || nat_lt file_limit (file_length written_length driver stored now)
+abbrev pub is_too_long : (written_length : Mailbox → ℕ) → Driver → (now : Mailbox) → List NewMessage → Bool
+is_too_long written_length driver now new = nat_lt file_limit (given_length new) || nat_lt file_limit (file_length written_length driver now new)

@@ -1,12 +1,14 @@
 -- What the three changes make of a mailbox. Messages stand at places, counted from 0.
-use Rattle.std.specs.Prelude.{ℕ, List, [], ◌∷◌, ◌++◌, ◌≤◌, ◌<◌, ◌+◌, ◌*◌, ◌/◌, ◌%◌, ◌^◌, ◌==◌, nat_eq, if◌then◌else◌, length, map}
+use Rattle.std.specs.Prelude.{ℕ, List, [], ◌∷◌, ◌++◌, ◌≤◌, ◌<◌, ◌+◌, ◌*◌, ◌/◌, ◌%◌, ◌^◌, ◌==◌, ◌&&◌, ◌||◌, not, Bool, false, nat_eq, nat_lt, min, if◌then◌else◌, length, map}
 use Rattle.std.specs.List.{list_any}
 use Rattle.mail_types.specs.declared.driver.Keeps.{Keeps}
 use Rattle.mail_types.specs.declared.mailbox.Mailbox.{Mailbox}
 use Rattle.mail_types.specs.declared.message.FlagChange.{FlagChange}
 use Rattle.mail_types.specs.declared.message.NewMessage.{NewMessage}
 use Rattle.mail_types.specs.declared.message.Record.{Record}
+use Rattle.mail_types.specs.Flags.{flag_bits}
 use Rattle.mail_types.specs.Keeping.{take_record, words_below}
+use Rattle.mail_types.specs.Mailboxes.{greatest_number}
 
 -- places that rise strictly, from a least one on, below a bound
 abbrev pub RiseBelow : (least bound : ℕ) → List ℕ → Type 0
@@ -21,27 +23,55 @@ cleared old new r = record r { words = r.words % 2 ^ old + 2 ^ new * (r.words / 
 abbrev pub named : (names : ℕ) → Record → Record
 named names r = record r { words = words_below names r.words }
 
+-- ---- Modification numbers (RFC 7162, section 3.1)
+
+-- the next one, which stays at the greatest; 0 forever where the driver has none
+abbrev pub next_number : Keeps → ℕ → ℕ
+next_number keeps number = if keeps.numbers then min (number + 1) greatest_number else number
+
+-- a keyword or a flag other than old differs
+abbrev pub differs : Record → Record → Bool
+differs one other = not (nat_eq one.words other.words && nat_eq (flag_bits (record one.flags { old = false })) (flag_bits (record other.flags { old = false })))
+
+-- a message that a change made differ takes the number
+abbrev pub with_number : ℕ → (before after : Record) → Record
+with_number number before after = if differs before after then record after { number = number } else after
+
+-- message by message
+abbrev pub with_numbers : ℕ → (before after : List Record) → List Record
+with_numbers number before [] = []
+with_numbers number [] (r ∷ rest) = r ∷ rest
+with_numbers number (old ∷ before) (r ∷ rest) = with_number number old r ∷ with_numbers number before rest
+
+-- some message differs
+abbrev pub any_differs : (before after : List Record) → Bool
+any_differs before [] = false
+any_differs [] (r ∷ rest) = false
+any_differs (old ∷ before) (r ∷ rest) = differs old r || any_differs before rest
+
 -- ---- Append
 
-abbrev pub with_uid : ℕ → NewMessage → Record
-with_uid uid new = record { uid = uid; text = new.text; stamp = new.stamp; flags = new.flags; words = new.words }
+-- a new message under a UID and a modification number
+abbrev pub with_uid : (uid number : ℕ) → NewMessage → Record
+with_uid uid number new = record { uid = uid; text = new.text; stamp = new.stamp; flags = new.flags; words = new.words; number = number }
 
 -- a new message as the driver keeps it, but with all its flags
-abbrev pub added_record : Keeps → (names uid : ℕ) → NewMessage → Record
-added_record keeps names uid new = named names (take_record keeps (with_uid uid new))
+abbrev pub added_record : Keeps → (names number uid : ℕ) → NewMessage → Record
+added_record keeps names number uid new = named names (take_record keeps (with_uid uid number new))
 
 -- new messages take the next UIDs
-abbrev pub added_records : Keeps → (names next : ℕ) → List NewMessage → List Record
-added_records keeps names next [] = []
-added_records keeps names next (new ∷ rest) = added_record keeps names next new ∷ added_records keeps names (next + 1) rest
+abbrev pub added_records : Keeps → (names number next : ℕ) → List NewMessage → List Record
+added_records keeps names number next [] = []
+added_records keeps names number next (new ∷ rest) = added_record keeps names number next new ∷ added_records keeps names number (next + 1) rest
 
--- the mailbox with new messages at its end, and a keyword list that begins with its own
+-- the mailbox with new messages at its end, which have its next modification number, and a keyword list that begins with its own
 abbrev pub add_messages : Keeps → Mailbox → List NewMessage → (words : List (List ℕ)) → Mailbox
 add_messages keeps m new words = record {
   validity = m.validity;
+  number = if nat_lt 0 (length new) then next_number keeps m.number else m.number;
   last = m.last + length new;
   words = words;
-  records = map (cleared (length m.words) (length words)) m.records ++ added_records keeps (length words) (m.last + 1) new;
+  records = map (cleared (length m.words) (length words)) m.records ++ added_records keeps (length words) (next_number keeps m.number) (m.last + 1) new;
 }
 
 -- ---- Flags
@@ -61,14 +91,18 @@ abbrev pub changed_records : (names place : ℕ) → List FlagChange → List Re
 changed_records names place changes [] = []
 changed_records names place changes (r ∷ rest) = changed_record names place changes r ∷ changed_records names (place + 1) changes rest
 
--- the mailbox with other flags and keywords at places, and a keyword list that begins with its own
-abbrev pub change_flags : Mailbox → List FlagChange → (words : List (List ℕ)) → Mailbox
-change_flags m changes words = record {
-  validity = m.validity;
-  last = m.last;
-  words = words;
-  records = changed_records (length words) 0 changes (map (cleared (length m.words) (length words)) m.records);
-}
+-- the mailbox with other flags and keywords at places, and a keyword list that begins with its own; where a message differs, that and the mailbox have the next modification number
+abbrev pub change_flags : Keeps → Mailbox → List FlagChange → (words : List (List ℕ)) → Mailbox
+change_flags keeps m changes words =
+    let before = map (cleared (length m.words) (length words)) m.records in
+    let after = changed_records (length words) 0 changes before in
+    record {
+      validity = m.validity;
+      number = if any_differs before after then next_number keeps m.number else m.number;
+      last = m.last;
+      words = words;
+      records = with_numbers (next_number keeps m.number) before after;
+    }
 
 -- ---- Expunge
 
@@ -79,4 +113,4 @@ undropped place places (r ∷ rest) = if list_any (nat_eq place) places then und
 
 -- the mailbox without the messages at places
 abbrev pub drop_records : Mailbox → List ℕ → Mailbox
-drop_records m places = record { validity = m.validity; last = m.last; words = m.words; records = undropped 0 places m.records }
+drop_records m places = record { validity = m.validity; number = m.number; last = m.last; words = m.words; records = undropped 0 places m.records }

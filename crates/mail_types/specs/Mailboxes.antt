@@ -17,13 +17,15 @@ has_no_nul text = list_all (λ byte. not (byte == 0)) text
 abbrev pub greatest_number : ℕ
 greatest_number = 4294967295
 
--- a UIDVALIDITY, at most 30 keyword names, and messages by rising UID, up to the highest that was given
+-- a UIDVALIDITY, at most 30 keyword names, and messages by rising UID, up to the highest that was given, with modification numbers up to the mailbox's
 pub record IsMailbox (m : Mailbox) : Type 0 where
   pub validity : m.validity ≢ 0
   pub validity_fits : m.validity ≤ greatest_number
+  pub number_fits : m.number ≤ greatest_number
   pub last_fits : m.last ≤ greatest_number
   pub few : length m.words ≤ 30
   pub distinct : are_distinct m.words ≡ true
   pub rise : uids_rise 0 m.records ≡ true
   pub within : list_all (λ r. nat_le r.uid m.last) m.records ≡ true
   pub clean : list_all (λ r. has_no_nul r.text) m.records ≡ true
+  pub numbered : list_all (λ r. nat_le r.number m.number) m.records ≡ true

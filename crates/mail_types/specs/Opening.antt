@@ -78,16 +78,19 @@ opened_mailbox contents fresh =
     let numbering = opened_numbering contents.validity contents.last uids fresh in
     record {
       validity = numbering.validity;
+      number = contents.number;
       last = numbering.last;
       words = contents.words;
       records = with_uids (opened_uids contents.validity contents.last uids) contents.records;
     }
 
--- contents that open as a mailbox: no UIDVALIDITY of 0, numbers of 32 bits, at most 30 names of which no two are the same, and texts without NUL
+-- contents that open as a mailbox: no UIDVALIDITY of 0, numbers of 32 bits, at most 30 names of which no two are the same, texts without NUL, and modification numbers up to that of the whole
 pub record IsOpenable (contents : StoreContents) : Type 0 where
   pub validity : unwrap_or contents.validity 1 ≢ 0
   pub validity_fits : unwrap_or contents.validity 1 ≤ greatest_number
+  pub number_fits : contents.number ≤ greatest_number
   pub last_fits : highest contents.last (uids_of contents.records) ≤ greatest_number
   pub few : length contents.words ≤ 30
   pub distinct : are_distinct contents.words ≡ true
   pub clean : list_all (λ r. has_no_nul r.text) contents.records ≡ true
+  pub numbered : list_all (λ r. nat_le r.number contents.number) contents.records ≡ true

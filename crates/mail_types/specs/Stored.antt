@@ -1,11 +1,10 @@
 -- What is written back of a mailbox.
-use Rattle.std.specs.Prelude.{ℕ, Bool, List, [], ◌∷◌, ◌+◌, ◌==◌, max, Option, Some, None, if◌then◌else◌, length, map, unwrap_or, is_some}
-use Rattle.std.specs.List.{list_any}
+use Rattle.std.specs.Prelude.{ℕ, List, [], ◌∷◌, ◌+◌, ◌==◌, max, Option, Some, None, if◌then◌else◌, map, unwrap_or, is_some}
 use Rattle.mail_types.specs.declared.contents.Placing.{Placing}
-use Rattle.mail_types.specs.declared.contents.Placing.TheVariants.{InPlace, Numbered, ScannedTo}
+use Rattle.mail_types.specs.declared.contents.Placing.TheVariants.{InPlace, Numbered}
 use Rattle.mail_types.specs.declared.contents.StoreContents.{StoreContents}
 use Rattle.mail_types.specs.declared.driver.Driver.{Driver}
-use Rattle.mail_types.specs.declared.driver.Driver.TheVariants.{Mh, Mix}
+use Rattle.mail_types.specs.declared.driver.Driver.TheVariants.{Mh}
 use Rattle.mail_types.specs.declared.driver.Keeps.{Keeps}
 use Rattle.mail_types.specs.declared.mailbox.Mailbox.{Mailbox}
 use Rattle.mail_types.specs.declared.message.Record.{Record}
@@ -19,11 +18,7 @@ stored_record keeps r = if keeps.uids then kept_record keeps r else record (kept
 
 -- ---- Where messages stand
 
--- a message remains where its UID is one of the mailbox from before the change; else it is new
-abbrev pub has_uid : List Record → ℕ → Bool
-has_uid records uid = list_any (λ r. r.uid == uid) records
-
--- the file number that a message had, the numbers standing in the order of the messages
+-- the file number that a message had, which remains where its UID is one of the mailbox from before the change, the numbers standing in the order of the messages
 abbrev pub number_of_uid : List Record → List ℕ → ℕ → Option ℕ
 number_of_uid [] numbers uid = None
 number_of_uid (r ∷ rest) [] uid = None
@@ -36,15 +31,10 @@ stored_numbers prior numbers next (r ∷ rest) =
     let kept = number_of_uid prior numbers r.uid in
     unwrap_or kept next ∷ stored_numbers prior numbers (if is_some kept then next else next + 1) rest
 
--- each new message takes 45 bytes and its size in a mix data file
-abbrev pub added_length : (prior : List Record) → List Record → ℕ
-added_length prior [] = 0
-added_length prior (r ∷ rest) = if has_uid prior r.uid then added_length prior rest else 45 + length r.text + added_length prior rest
-
+-- where the messages then stand
 abbrev pub stored_placing : Placing → (prior now : List Record) → Placing
 stored_placing InPlace prior now = InPlace
 stored_placing (Numbered numbers directory) prior now = Numbered (stored_numbers prior numbers (max (greatest numbers) directory + 1) now) directory
-stored_placing (ScannedTo end) prior now = ScannedTo (end + added_length prior now)
 
 -- ---- The contents
 
@@ -52,6 +42,7 @@ stored_placing (ScannedTo end) prior now = ScannedTo (end + added_length prior n
 abbrev pub stored_contents : Driver → (before : StoreContents) → (prior now : Mailbox) → StoreContents
 stored_contents driver before prior now = let keeps = keeps_of driver in record {
   validity = if keeps.uids then Some now.validity else None;
+  number = if keeps.numbers then now.number else 0;
   last = if keeps.uids then now.last else 0;
   words = if keeps.uids then now.words else [];
   records = map (stored_record keeps) now.records;
@@ -60,15 +51,15 @@ stored_contents driver before prior now = let keeps = keeps_of driver in record 
 
 -- ---- Creation
 
-abbrev pub empty_mailbox : (validity : ℕ) → Mailbox
-empty_mailbox validity = record { validity = validity; last = 0; words = []; records = [] }
+-- a mailbox without messages; its modification number is 1 where the driver has them
+abbrev pub empty_mailbox : Driver → (validity : ℕ) → Mailbox
+empty_mailbox driver validity = record { validity = validity; number = if (keeps_of driver).numbers then 1 else 0; last = 0; words = []; records = [] }
 
 abbrev pub empty_placing : Driver → Placing
 empty_placing Mh = Numbered [] 0
-empty_placing Mix = ScannedTo 0
 empty_placing driver = InPlace
 
 -- what is written of a new mailbox
 abbrev pub created_contents : Driver → (validity : ℕ) → StoreContents
 created_contents driver validity =
-    stored_contents driver (record { validity = None; last = 0; words = []; records = []; placing = empty_placing driver }) (empty_mailbox validity) (empty_mailbox validity)
+    stored_contents driver (record { validity = None; number = 0; last = 0; words = []; records = []; placing = empty_placing driver }) (empty_mailbox driver validity) (empty_mailbox driver validity)

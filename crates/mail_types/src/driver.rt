@@ -33,7 +33,8 @@ pub enum TextKeep {
     Mmdf,
 }
 
-/// What a driver declares to keep: whether UIDs last, the number of keywords, the flags, and the forms of dates and texts.
+/// What a driver declares to keep: whether UIDs last, the number of keywords, the flags, the forms of dates and texts, and
+/// whether it has modification numbers.
 #[derive(Clone, Copy, Debug, PartialEq, Eq)]
 pub struct Keeps {
     pub uids: bool,
@@ -41,6 +42,8 @@ pub struct Keeps {
     pub flags: Flags,
     pub date: DateKeep,
     pub text: TextKeep,
+    /// Whether messages have modification numbers (RFC 7162, section 3.1).
+    pub numbers: bool,
 }
 
 /// A limit that a refusal names: of a file, of the text of one message, or of the number of messages.
@@ -61,8 +64,8 @@ const EVERY_FLAG: Flags = Flags {
 };
 
 // What a driver keeps whose UIDs last.
-fn lasting(date: DateKeep, text: TextKeep) -> Keeps
-    ensures { result ≡ record { uids = true; words = 30; flags = every_flag true; date = date; text = text } }
+fn lasting(date: DateKeep, text: TextKeep, numbers: bool) -> Keeps
+    ensures { result ≡ record { uids = true; words = 30; flags = every_flag true; date = date; text = text; numbers = numbers } }
 {
     Keeps {
         uids: true,
@@ -70,12 +73,13 @@ fn lasting(date: DateKeep, text: TextKeep) -> Keeps
         flags: EVERY_FLAG,
         date,
         text,
+        numbers,
     }
 }
 
-// What a driver keeps that has room for neither UIDs nor keywords.
+// What a driver keeps that has room for neither UIDs nor keywords nor modification numbers.
 fn passing(flags: Flags, date: DateKeep, text: TextKeep) -> Keeps
-    ensures { result ≡ record { uids = false; words = 0; flags = flags; date = date; text = text } }
+    ensures { result ≡ record { uids = false; words = 0; flags = flags; date = date; text = text; numbers = false } }
 {
     Keeps {
         uids: false,
@@ -83,6 +87,7 @@ fn passing(flags: Flags, date: DateKeep, text: TextKeep) -> Keeps
         flags,
         date,
         text,
+        numbers: false,
     }
 }
 
@@ -91,9 +96,10 @@ pub fn keeps_of(driver: Driver) -> Keeps
     ensures { result ≡ keeps_of driver }
 {
     match driver {
-        Driver::Unix => lasting(DateKeep::Second, TextKeep::Unix),
-        Driver::Mmdf => lasting(DateKeep::Second, TextKeep::Mmdf),
-        Driver::Mbx | Driver::Mix => lasting(DateKeep::Zone, TextKeep::Exact),
+        Driver::Unix => lasting(DateKeep::Second, TextKeep::Unix, false),
+        Driver::Mmdf => lasting(DateKeep::Second, TextKeep::Mmdf, false),
+        Driver::Mbx => lasting(DateKeep::Zone, TextKeep::Exact, false),
+        Driver::Mix => lasting(DateKeep::Zone, TextKeep::Exact, true),
         Driver::Mtx => passing(EVERY_FLAG, DateKeep::Zone, TextKeep::Exact),
         Driver::Tenex => passing(EVERY_FLAG, DateKeep::Zone, TextKeep::Lines),
         Driver::Mh => passing(Flags::none(), DateKeep::Epoch, TextKeep::Lines),

@@ -55,6 +55,7 @@ pub fn take(alloc: Global, keeps: Keeps, message: &Record) -> Result<Record, All
         stamp: stamp_in_form(keeps.date, message.stamp),
         flags: message.flags,
         words: words_below(keeps.words, message.words),
+        number: if keeps.numbers { message.number } else { 0 },
     })
 }
 

@@ -5,14 +5,16 @@ ghost use Rattle.mail_fields.specs.Keyword.{same_keyword};
 ghost use Rattle.mail_fields.specs.Names.{are_distinct};
 ghost use Rattle.mail_types.specs.Mailboxes.{uids_rise, has_no_nul, IsMailbox};
 
+use crate::limits::WORD_LIMIT;
 use crate::{Record, Records};
 use mail_fields::{Keyword, Keywords};
 use std::alloc::{AllocError, Global};
 
-/// A mailbox: its UIDVALIDITY, the highest UID that it ever gave, the names of its keywords by number, and its messages.
+/// A mailbox: its UIDVALIDITY, its modification number, the highest UID that it ever gave, the names of its keywords by number, and its messages.
 #[derive(Debug, Drop)]
 pub struct Mailbox {
     pub validity: u32,
+    pub number: u32,
     pub last: u32,
     pub words: Keywords,
     pub records: Records,
@@ -68,6 +70,12 @@ fn are_within(last: u32, records: &[Record]) -> bool
     records.iter().all(|message| message.uid <= last)
 }
 
+fn are_numbered(number: u32, records: &[Record]) -> bool
+    ensures { result ≡ list_all (λ r. nat_le r.number number) records.now }
+{
+    records.iter().all(|message| message.number <= number)
+}
+
 fn copy_words(alloc: Global, words: &[Keyword]) -> Result<Keywords, AllocError>
     ensures { IfOk result (λ copies. copies ≡ words.now) }
 {
@@ -93,23 +101,28 @@ impl Mailbox {
     pub fn new(
         alloc: Global,
         validity: u32,
+        number: u32,
         last: u32,
         words: &[Keyword],
         records: &[Record],
     ) -> Result<Option<Mailbox>, AllocError>
-        ensures some { IfOk result (λ made. IfSome made (λ m. (m ≡ record { validity = validity; last = last; words = words.now; records = records.now }) × IsMailbox m)) }
-        ensures none { IfOk result (λ made. IfNone made (IsMailbox (record { validity = validity; last = last; words = words.now; records = records.now }) → ⊥)) }
+        ensures some { IfOk result (λ made. IfSome made (λ m. (m ≡ record { validity = validity; number = number; last = last; words = words.now; records = records.now }) × IsMailbox m)) }
+        ensures none { IfOk result (λ made. IfNone made (IsMailbox (record { validity = validity; number = number; last = last; words = words.now; records = records.now }) → ⊥)) }
     {
-        if validity == 0 || words.len() > 30 || !are_distinct(words) {
+        if validity == 0 || words.len() > WORD_LIMIT || !are_distinct(words) {
             return Ok(None);
         }
         if !uids_rise(records) || !are_within(last, records) || !are_clean(records) {
+            return Ok(None);
+        }
+        if !are_numbered(number, records) {
             return Ok(None);
         }
         let words = copy_words(alloc, words)?;
         let records = copy_records(alloc, records)?;
         Ok(Some(Mailbox {
             validity,
+            number,
             last,
             words,
             records,

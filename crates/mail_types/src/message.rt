@@ -6,7 +6,7 @@ use mail_fields::{Bytes, Stamp};
 use std::alloc::{AllocError, Global};
 use std::marker::Model;
 
-/// A message of a mailbox. Bit i of `words` is keyword number i.
+/// A message of a mailbox. Bit i of `words` is keyword number i; `number` is the modification number, 0 where there is none.
 #[derive(Debug, Drop)]
 pub struct Record {
     pub uid: u32,
@@ -14,6 +14,7 @@ pub struct Record {
     pub stamp: Stamp,
     pub flags: Flags,
     pub words: u32,
+    pub number: u32,
 }
 
 impl Record {
@@ -28,6 +29,7 @@ impl Record {
             stamp: self.stamp,
             flags: self.flags,
             words: self.words,
+            number: self.number,
         })
     }
 }

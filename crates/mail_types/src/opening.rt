@@ -36,6 +36,7 @@ pub fn opened(alloc: Global, contents: StoreContents, fresh: u32) -> Result<Mail
 {
     let StoreContents {
         validity,
+        number,
         last,
         words,
         records,
@@ -47,6 +48,7 @@ pub fn opened(alloc: Global, contents: StoreContents, fresh: u32) -> Result<Mail
     give_uids(records.as_mut_slice(), uids.as_slice());
     Ok(Mailbox {
         validity: numbering.validity,
+        number,
         last: numbering.last,
         words,
         records: Records::of(records),

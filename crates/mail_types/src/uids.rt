@@ -3,7 +3,7 @@ ghost use Rattle.std.specs.Prelude.{◌≡◌, ◌≤◌, ◌<◌, ◌+◌, ◌�
 ghost use Rattle.std.specs.List.{list_all};
 ghost use Rattle.mail_types.specs.Opening.{greatest, missing, rise_then_none, given_uids, numbers_from, opened_uids, opened_numbering};
 
-const GREATEST_GIVEN: u64 = 4_294_967_294;
+use crate::limits::GREATEST_GIVEN;
 
 /// The UIDVALIDITY and the highest UID of an opened mailbox.
 #[derive(Clone, Copy, Debug, PartialEq, Eq)]
@@ -111,7 +111,7 @@ pub fn number_uids(validity: Option<u32>, last: u32, uids: &mut [u32], fresh: u3
 {
     let highest = greatest(uids).max(last);
     let missing = count_missing(uids);
-    let room = missing == 0 || u64::from(highest) + missing as u64 <= GREATEST_GIVEN;
+    let room = missing == 0 || u64::from(highest) + missing as u64 <= u64::from(GREATEST_GIVEN);
     match validity {
         Some(validity) if rise_then_none(uids) && room => {
             give_uids(uids, highest);

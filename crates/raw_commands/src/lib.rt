@@ -7,3 +7,4 @@ mod line;
 
 pub use command::{RawCommand, RawUnit};
 pub use feed::{Feed, units_of_pieces};
+pub use line::{MOST_LINES, MOST_LITERALS};

@@ -7,10 +7,10 @@ use mail_fields::read_decimal;
 use memchr::memrchr;
 
 /// The bytes that the lines of a command may have together, without their CRLF.
-pub(crate) const MOST_LINES: usize = 65_536;
+pub const MOST_LINES: usize = 65_536;
 
 /// The bytes that its literals may have together.
-pub(crate) const MOST_LITERALS: usize = 16_777_216;
+pub const MOST_LITERALS: usize = 16_777_216;
 
 // The number that digits and `}` write.
 fn closed_number(tail: &[u8]) -> Option<u64>
