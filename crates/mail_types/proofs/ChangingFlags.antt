@@ -1,9 +1,10 @@
 -- Flags are changed: one change after the other, and what stays.
 use Rattle.std.proofs.Common.{◌≡◌, ℕ, zero, suc, ◌+◌, ◌<◌, ◌≤◌, ◌==◌, Bool, true, false, List, [], ◌∷◌, ◌++◌, length, take, map, set, get_or, refl, sym, ◌∙◌, ap, subst, arith, cond}
+use Rattle.std.specs.List.{AllByRecursion}
 use Rattle.std.proofs.lemmas.List.{take_more}
 use Rattle.mail_types.specs.declared.message.FlagChange.{FlagChange}
 use Rattle.mail_types.specs.declared.message.Record.{Record}
-use Rattle.mail_types.specs.Lists.{RiseBelow, places_of, changed_record, changed_records, named}
+use Rattle.mail_types.specs.Lists.{RiseBelow, places_of, changed_record, changed_records, named, differs, with_number, with_numbers}
 
 -- no change of a list is at a place
 abbrev Untouched : ℕ → List FlagChange → Type 0
@@ -93,3 +94,29 @@ changed_texts = changed_stays (λ r. r.text) (λ r c names. refl)
 
 pub changed_numbers : (names k : ℕ) (cs : List FlagChange) (rs : List Record) → map (λ r. r.number) (changed_records names k cs rs) ≡ map (λ r. r.number) rs
 changed_numbers = changed_stays (λ r. r.number) (λ r c names. refl)
+
+-- a part that is no modification number stays
+pub with_numbers_same : {B : Type 0} (part : Record → B) → ((n : ℕ) (r : Record) → part (record r { number = n }) ≡ part r) → (number : ℕ) (before after : List Record)
+    → map part (with_numbers number before after) ≡ map part after
+with_numbers_same part blind number before [] = refl
+with_numbers_same part blind number [] (r ∷ rest) = refl
+with_numbers_same part blind number (old ∷ before) (r ∷ rest) = λ j. one (differs old r) j ∷ with_numbers_same part blind number before rest j
+  where
+    one : (b : Bool) → part (cond b (record r { number = number }) r) ≡ part r
+    one true = blind number r
+    one false = refl
+
+pub with_numbers_count : (number : ℕ) (before after : List Record) → length (with_numbers number before after) ≡ length after
+with_numbers_count number before [] = refl
+with_numbers_count number [] (r ∷ rest) = refl
+with_numbers_count number (old ∷ before) (r ∷ rest) = ap (λ n. suc n) (with_numbers_count number before rest)
+
+-- what holds of messages holds of them under the number
+pub with_numbers_have : (P : Record → Type 0) (number : ℕ) → ((r : Record) → P r → P (record r { number = number })) → (before after : List Record) → AllByRecursion P after → AllByRecursion P (with_numbers number before after)
+with_numbers_have P number on before [] all = tt
+with_numbers_have P number on [] (r ∷ rest) all = all
+with_numbers_have P number on (old ∷ before) (r ∷ rest) all = (one (differs old r) all.0, with_numbers_have P number on before rest all.1)
+  where
+    one : (b : Bool) → P r → P (cond b (record r { number = number }) r)
+    one true is = on r is
+    one false is = is

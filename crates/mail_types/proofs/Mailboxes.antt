@@ -16,7 +16,7 @@ use Rattle.mail_fields.specs.Names.{are_distinct}
 use Rattle.mail_types.specs.Mailboxes.{uids_rise, has_no_nul, greatest_number, IsMailbox}
 use Rattle.mail_types.specs.Opening.{greatest, missing, rise_then_none, given_uids, numbers_from, with_uids, uids_of, highest, has_room, uids_last, opened_mailbox, IsOpenable, greatest_given}
 use Rattle.mail_types.proofs.CleanTexts.{form_is_clean}
-use Rattle.mail_types.proofs.ChangingFlags.{changed_uids, changed_texts, changed_numbers}
+use Rattle.mail_types.proofs.ChangingFlags.{changed_uids, changed_texts, changed_numbers, with_numbers_same}
 use Rattle.mail_types.proofs.Dropping.{all_left}
 
 -- ---- Rising numbers
@@ -226,17 +226,6 @@ numbers_within_high number high (old ∷ before) (r ∷ rest) all up =
         → (nat_le (cond b (record r { number = number }) r).number high && list_all (λ r. nat_le r.number high) (with_numbers number before rest)) ≡ true
     step true own up below = let e : nat_le number high ≡ true = let at : number ≤ high = up refl in grind arith in both e (below (λ is. up refl))
     step false own up below = both own (below up)
-
--- a part that is no modification number stays
-with_numbers_same : {B : Type 0} (part : Record → B) → ((n : ℕ) (r : Record) → part (record r { number = n }) ≡ part r) → (number : ℕ) (before after : List Record)
-    → map part (with_numbers number before after) ≡ map part after
-with_numbers_same part blind number before [] = refl
-with_numbers_same part blind number [] (r ∷ rest) = refl
-with_numbers_same part blind number (old ∷ before) (r ∷ rest) = λ j. one (differs old r) j ∷ with_numbers_same part blind number before rest j
-  where
-    one : (b : Bool) → part (cond b (record r { number = number }) r) ≡ part r
-    one true = blind number r
-    one false = refl
 
 pub changed_is_mailbox : (keeps : Keeps) (m : Mailbox) (changes : List FlagChange) (words : List (List ℕ)) → IsMailbox m → length words ≤ 30 → are_distinct words ≡ true
     → IsMailbox (change_flags keeps m changes words)
