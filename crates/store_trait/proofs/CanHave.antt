@@ -34,6 +34,7 @@ use Rattle.store_trait.specs.declared.faults.StoreFault.{StoreFault}
 use Rattle.store_trait.specs.declared.faults.StoreFault.TheVariants.{NoUid, TooMany, TooLarge}
 use Rattle.store_trait.specs.Changes.{AddsNames, IsNextWords, CanChange, changed_mailbox, words_after, is_nothing, first_due, append_tests, due_refusal}
 use Rattle.store_trait.specs.Having.{CanSpell, greatest_written}
+use Rattle.store_trait.specs.OwnPaths.{is_directory_driver}
 
 -- ---- By driver
 
@@ -54,6 +55,16 @@ given_written Mtx = (omega arith, omega arith)
 given_written Tenex = (omega arith, omega arith)
 given_written Mh = (omega arith, omega arith)
 given_written Mix = (omega arith, omega arith)
+
+-- a driver of one file has no modification numbers
+pub file_unnumbered : (d : Driver) → is_directory_driver d ≡ false → (keeps_of d).numbers ≡ false
+file_unnumbered Unix kind = refl
+file_unnumbered Mmdf kind = refl
+file_unnumbered Mbx kind = refl
+file_unnumbered Mtx kind = refl
+file_unnumbered Tenex kind = refl
+file_unnumbered Mh kind = refl
+file_unnumbered Mix kind = absurd (false≢true (sym kind))
 
 -- ---- Lists
 

@@ -1,0 +1,10 @@
+pub mod Changing
+pub mod CutFiles
+pub mod Nothing
+pub mod OneFile
+pub mod Opening
+pub mod Places
+pub mod Removed
+pub mod Sizing
+pub mod Standing
+pub mod Writing
