@@ -3,12 +3,15 @@ ghost use Rattle.std.specs.Prelude.{◌≤◌, length, IfOk};
 
 use std::fs::{self, OpenFile, OpenOptions};
 use std::io::{self, ErrorKind, Read, Seek, SeekFrom, Write};
+use std::os::unix::fs::OpenOptionsExt;
 use std::rt::Runtime;
 
+/// Makes a file for its owner alone.
 pub(crate) fn make_file<R: Runtime>(rt: &R, path: &str) -> io::Result<()> {
     let _file = OpenOptions::new()
         .write(true)
         .create_new(true)
+        .mode(0o600)
         .open(rt, path)?;
     Ok(())
 }

@@ -2,10 +2,10 @@
 ghost use Rattle.std.specs.Prelude.{◌≡◌, ◌≤◌, ◌+◌, ◌-◌, ◌^◌, [], min, length, IfOk};
 ghost use Rattle.file_model.specs.Causes.{FileCause};
 
-use crate::directory::{
-    list_names, make_directory, move_path, remove_directory, sync_directory, what_stands,
-};
+use crate::directory::{list_names, make_directory, remove_directory, sync_directory, what_stands};
 use crate::file::{cut_file, make_file, read_file, remove_file, sync_file, write_file};
+use crate::moving::move_path;
+use crate::noted::{Call, NotedFault};
 use crate::opened::Opened;
 use crate::streams::{read_input, write_output};
 use file_model::{Failed, Fault, Files, Host, Kind};
@@ -18,7 +18,8 @@ use std::rt::Runtime;
 pub struct RealHost<R: Runtime> {
     rt: R,
     // The file that was read last, so that many reads of one file open it once.
-    opened: Option<Opened<R::File>>,
+    opened: Option<Opened<R::File, R::A>>,
+    last_fault: Option<NotedFault<R::A>>,
     file_faults: u64,
     hear_faults: u64,
     say_faults: u64,
@@ -30,6 +31,7 @@ impl<R: Runtime> RealHost<R> {
         RealHost {
             rt,
             opened: None,
+            last_fault: None,
             file_faults: 0,
             hear_faults: 0,
             say_faults: 0,
@@ -37,19 +39,25 @@ impl<R: Runtime> RealHost<R> {
         }
     }
 
-    fn fail(&mut self) -> Failed
+    /// The call that failed last. None where none failed, or where no memory was left to keep it.
+    pub fn last_fault(&self) -> Option<&NotedFault<R::A>> {
+        self.last_fault.as_ref()
+    }
+
+    fn fail(&mut self, call: Call, path: &str, error: io::Error) -> Failed
         ensures hear { self.new.hear_faults ≡ self.old.hear_faults }
         ensures say { self.new.say_faults ≡ self.old.say_faults }
         ensures read { self.new.bytes_read ≡ self.old.bytes_read }
         ensures later { self.old.file_faults ≤ self.new.file_faults }
         ensures rose { min (self.old.file_faults + 1) (2 ^ 64 - 1) ≤ self.new.file_faults }
     {
+        self.last_fault = NotedFault::note(self.rt.alloc(), call, path, error);
         self.file_faults = self.file_faults.saturating_add(1);
         Failed
     }
 
     // What came of a change of the files. The file that was read last may be another one now.
-    fn after_change(&mut self, done: io::Result<()>) -> Result<(), Failed>
+    fn after_change(&mut self, call: Call, path: &str, done: io::Result<()>) -> Result<(), Failed>
         ensures cause { FileCause
             (record { file = self.old.file_faults; hear = self.old.hear_faults; say = self.old.say_faults; read = self.old.bytes_read })
             (record { file = self.new.file_faults; hear = self.new.hear_faults; say = self.new.say_faults; read = self.new.bytes_read }) result }
@@ -57,7 +65,15 @@ impl<R: Runtime> RealHost<R> {
         self.opened = None;
         match done {
             Ok(()) => Ok(()),
-            Err(_) => Err(self.fail()),
+            Err(error) => Err(self.fail(call, path, error)),
+        }
+    }
+
+    // Whether the file that was read last is the one at this path, as far as is known.
+    fn has_open(&self, path: &str) -> bool {
+        match &self.opened {
+            Some(opened) => opened.is_at(path),
+            None => false,
         }
     }
 
@@ -69,8 +85,8 @@ impl<R: Runtime> RealHost<R> {
         ensures read { self.new.bytes_read ≡ self.old.bytes_read }
     {
         let mut opened = match self.opened.take() {
-            Some(opened) => opened.at(&self.rt, path)?,
-            None => Opened::open(&self.rt, path)?,
+            Some(opened) if opened.is_at(path) => opened,
+            _ => Opened::open(&self.rt, path)?,
         };
         let count = read_file(opened.file(), from, buf)?;
         self.opened = Some(opened);
@@ -85,10 +101,14 @@ impl<R: Runtime> Files for RealHost<R> {
 
     ghost sound = { λ host. tt };
 
+    // The file that was read last may have been replaced by another program, and is opened again behind this call.
     fn stat(&mut self, path: &str) -> Result<Kind, Failed> {
+        if self.has_open(path) {
+            self.opened = None;
+        }
         match what_stands(&self.rt, path) {
             Ok(kind) => Ok(kind),
-            Err(_) => Err(self.fail()),
+            Err(error) => Err(self.fail(Call::Stat, path, error)),
         }
     }
 
@@ -98,7 +118,7 @@ impl<R: Runtime> Files for RealHost<R> {
                 self.bytes_read = self.bytes_read.saturating_add(count as u64);
                 Ok(count)
             }
-            Err(_) => Err(self.fail()),
+            Err(error) => Err(self.fail(Call::Read, path, error)),
         }
     }
 
@@ -106,8 +126,8 @@ impl<R: Runtime> Files for RealHost<R> {
         match list_names(&self.rt, alloc, dir) {
             Ok(names) => Ok(names),
             Err(error) if error.kind() == ErrorKind::OutOfMemory => Err(Fault::Memory),
-            Err(_) => {
-                let _failed = self.fail();
+            Err(error) => {
+                let _failed = self.fail(Call::Names, dir, error);
                 Err(Fault::Failed)
             }
         }
@@ -115,51 +135,51 @@ impl<R: Runtime> Files for RealHost<R> {
 
     fn make(&mut self, path: &str) -> Result<(), Failed> {
         let done = make_file(&self.rt, path);
-        self.after_change(done)
+        self.after_change(Call::Make, path, done)
     }
 
     fn make_dir(&mut self, path: &str) -> Result<(), Failed> {
         let done = make_directory(&self.rt, path);
-        self.after_change(done)
+        self.after_change(Call::MakeDir, path, done)
     }
 
     fn write_at(&mut self, path: &str, from: u64, bytes: &[u8]) -> Result<(), Failed> {
         let done = write_file(&self.rt, path, from, bytes);
-        self.after_change(done)
+        self.after_change(Call::Write, path, done)
     }
 
     fn cut(&mut self, path: &str, length: u64) -> Result<(), Failed> {
         let done = cut_file(&self.rt, path, length);
-        self.after_change(done)
+        self.after_change(Call::Cut, path, done)
     }
 
     fn sync(&mut self, path: &str) -> Result<(), Failed> {
         match sync_file(&self.rt, path) {
             Ok(()) => Ok(()),
-            Err(_) => Err(self.fail()),
+            Err(error) => Err(self.fail(Call::Sync, path, error)),
         }
     }
 
     fn sync_dir(&mut self, path: &str) -> Result<(), Failed> {
         match sync_directory(&self.rt, path) {
             Ok(()) => Ok(()),
-            Err(_) => Err(self.fail()),
+            Err(error) => Err(self.fail(Call::SyncDir, path, error)),
         }
     }
 
     fn rename(&mut self, from: &str, to: &str) -> Result<(), Failed> {
         let done = move_path(&self.rt, from, to);
-        self.after_change(done)
+        self.after_change(Call::Rename, to, done)
     }
 
     fn remove(&mut self, path: &str) -> Result<(), Failed> {
         let done = remove_file(&self.rt, path);
-        self.after_change(done)
+        self.after_change(Call::Remove, path, done)
     }
 
     fn remove_dir(&mut self, path: &str) -> Result<(), Failed> {
         let done = remove_directory(&self.rt, path);
-        self.after_change(done)
+        self.after_change(Call::RemoveDir, path, done)
     }
 }
 
@@ -167,7 +187,8 @@ impl<R: Runtime> Host for RealHost<R> {
     fn hear(&mut self, buf: &mut [u8]) -> Result<usize, Failed> {
         match read_input(&self.rt, buf) {
             Ok(count) => Ok(count),
-            Err(_) => {
+            Err(error) => {
+                self.last_fault = NotedFault::note(self.rt.alloc(), Call::Hear, "", error);
                 self.hear_faults = self.hear_faults.saturating_add(1);
                 Err(Failed)
             }
@@ -177,7 +198,8 @@ impl<R: Runtime> Host for RealHost<R> {
     fn say(&mut self, bytes: &[u8]) -> Result<(), Failed> {
         match write_output(&self.rt, bytes) {
             Ok(()) => Ok(()),
-            Err(_) => {
+            Err(error) => {
+                self.last_fault = NotedFault::note(self.rt.alloc(), Call::Say, "", error);
                 self.say_faults = self.say_faults.saturating_add(1);
                 Err(Failed)
             }
