@@ -1,12 +1,9 @@
 -- What each call does, for the crates above: on disks, and on histories.
-use Rattle.std.proofs.Common.{◌≡◌, ◌≢◌, inl, inr, ⊎_elim, ℕ, ◌<◌, ◌≤◌, List, [], ◌∷◌, length, take, true, false, cond, Option, Some, None, refl, sym, ◌∙◌, ap, subst, arith, ◌==◌, Result, OnOk}
+use Rattle.std.proofs.Common.{◌≡◌, ◌≢◌, inl, inr, ⊎_elim, ℕ, ◌<◌, List, [], ◌∷◌, take, true, false, cond, Option, Some, None, refl, sym, ◌∙◌, ap, subst, arith, ◌==◌, Result, OnOk}
 use Rattle.std.specs.FinMap.{get, remove}
 use Rattle.file_model.specs.Paths.{parent}
-use Rattle.file_model.specs.Images.{Entry, a_file, a_directory, Names, Node, nothing, file, directory, node_of, node_at, is_directory, directory_test, bytes_of, Agree}
-use Rattle.file_model.specs.Kinds.{IsFile, kind_of}
+use Rattle.file_model.specs.Images.{Entry, a_file, a_directory, Names, Node, nothing, file, node_of, node_at, is_directory, directory_test, bytes_of, Agree}
 use Rattle.file_model.specs.declared.files.Failed.{Failed}
-use Rattle.file_model.specs.declared.files.Kind.{Kind}
-use Rattle.file_model.specs.declared.files.Kind.TheVariants.{File}
 use Rattle.file_model.specs.Disk.{Edit, wrote, shortened, FileState, MayStand, Disk, seen_names, seen, Call, make, write_at, cut, sync, rename, sync_dir, with_file, written, written_file, cut_file, synced_file, empty_file, renamed, all_done, after, AfterFailed}
 use Rattle.file_model.specs.Kept.{Keeps, Replaces, ChangesTo, MayMake, IsHome, IsOwn, IsWritten, HasOnly, IsGone, NonePending, IsSound, Sees}
 use Rattle.file_model.specs.Histories.{History, Now, GoesOn, Ran, Ended}
@@ -21,9 +18,6 @@ pub file_entry : (bytes : ℕ → List ℕ) (e : Option Entry) (b : List ℕ) �
 file_entry bytes None b is = absurd (cc)
 file_entry bytes (Some a_directory) b is = absurd (cc)
 file_entry bytes (Some (a_file id)) b is = (id, refl, cc)
-
-pub own_file : (path b : List ℕ) (disk : Disk) (place : ℕ) → IsOwn path b disk → place ≤ length b → IsFile (seen disk) path place
-own_file path b disk place own fits = (b, ap (node_of (seen disk).bytes) own.stands ∙ ap file own.is_seen, fits)
 
 -- a file that a call makes
 pub own_made : (path : List ℕ) (disk : Disk) → IsSound disk → IsOwn path [] (after (make path) disk)
@@ -225,19 +219,6 @@ module _ (result : Result (Unit {0}) Failed) (old new : History) where
   pub ok_settle_move : (from to bytes : List ℕ) → Now old (λ w. WasMoved from to bytes w.disk) → GoesOn (sync_dir (parent to)) result old new → OnOk result (Now new (λ w. HasOnly to bytes w.disk))
   ok_settle_move from to bytes now on = ok_call (WasMoved from to bytes) (HasOnly to bytes) (sync_dir (parent to))
       (λ d p. subst (λ d. HasOnly to bytes (after (sync_dir (parent to)) d)) (sym p.2) (record { each = durable_rename from to bytes p.0 p.1 })) result old new now on
-
--- what `stat` answers of a file that stands nowhere else
-pub stat_own : (path : List ℕ) (kind : Kind) (n : ℕ) (h : History) → kind ≡ File n → Now h (λ w. kind ≡ kind_of (node_at (seen w.disk) path)) → Now h (λ w. IsHome path w.disk) → Now h (λ w. (b : List ℕ) × IsOwn path b w.disk)
-stat_own path kind n [] is now home = tt
-stat_own path kind n (w ∷ past) is now home =
-    let bytes = file_of (node_at (seen w.disk) path) (sym now ∙ is) in
-    let e = file_entry (seen w.disk).bytes (get (seen_names w.disk) path) bytes.0 bytes.1 in
-    (bytes.0, record { id = e.0; stands = e.1; is_seen = e.2; home = home })
-  where
-    file_of : (node : Node) → kind_of node ≡ File n → (b : List ℕ) × (node ≡ file b)
-    file_of nothing e = absurd (cc)
-    file_of directory e = absurd (cc)
-    file_of (file b) e = (b, refl)
 
 -- a run that keeps all else after one that replaces a content
 pub ran_durable : (to bytes : List ℕ) (at all : List ℕ → Type 0) → ((q : List ℕ) → at q → all q) → all to → (old mid new : History)

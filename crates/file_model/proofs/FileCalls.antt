@@ -1,12 +1,12 @@
 -- Calls on files make and take away no directory.
-use Rattle.std.proofs.Common.{◌≡◌, ◌≢◌, ◌⊎◌, ℕ, Bool, true, false, List, [], ◌∷◌, cond, refl, sym, ◌∙◌, ap, subst, inl, inr, ⊎_elim, Option, Some, None, Result, Ok, Err}
+use Rattle.std.proofs.Common.{◌≡◌, ℕ, Bool, true, false, List, [], ◌∷◌, refl, sym, ◌∙◌, ap, subst, inl, inr, ⊎_elim, Option, Some, None, Result}
 use Rattle.std.specs.Prelude.{IsErr}
 use Rattle.std.specs.FinMap.{get, insert, remove}
 use Rattle.file_model.specs.declared.files.Failed.{Failed}
-use Rattle.file_model.specs.Disk.{Disk, FileState, Call, make, make_dir, write_at, cut, sync, rename, remove_at, sync_dir, DirectoryOperation, made, moved_file, removed, renamed, done, all_done, MayStand, MayLeave, AfterFailed, after, with_file, written_file, cut_file, synced_file, seen, seen_names, durable_by, left_pending_by}
-use Rattle.file_model.specs.Histories.{World, History, Now, GoesOn, Ran}
-use Rattle.file_model.specs.Images.{Image, Entry, a_file, a_directory, Names, Node, nothing, file, directory, node_of, node_at, Agree, is_directory, directory_test}
-use Rattle.file_model.specs.Kept.{Keeps, Sees, NonePending, IsSound, IsWritten, HasDirectories, KeepsDirectories}
+use Rattle.file_model.specs.Disk.{Disk, FileState, Call, make, write_at, cut, sync, rename, remove_at, sync_dir, DirectoryOperation, made, moved_file, removed, renamed, done, MayStand, AfterFailed, after, with_file, written_file, cut_file, synced_file, seen, seen_names}
+use Rattle.file_model.specs.Histories.{History, Now, GoesOn, Ran}
+use Rattle.file_model.specs.Images.{Entry, a_file, a_directory, Names, node_of, is_directory, directory_test}
+use Rattle.file_model.specs.Kept.{IsSound, IsWritten, HasDirectories, KeepsDirectories}
 use Rattle.file_model.proofs.Names.{cases_path, get-insert_same, get-insert_other, get-remove_same, get-remove_other, all_may_stand, stood_before}
 use Rattle.file_model.proofs.Runs.{ran_call, ran_then, ran_none}
 

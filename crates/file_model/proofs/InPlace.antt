@@ -1,13 +1,11 @@
 -- A file that is rewritten where it stands.
-use Rattle.std.proofs.Common.{◌≡◌, ◌≢◌, ◌⊎◌, ℕ, ◌==◌, true, false, inl, inr, List, [], ◌∷◌, length, cond, Option, Some, None, refl, sym, ◌∙◌, ap, subst, arith, Result, OnOk}
+use Rattle.std.proofs.Common.{◌≡◌, ◌≢◌, ℕ, ◌==◌, true, false, List, [], ◌∷◌, cond, Option, Some, None, refl, sym, ◌∙◌, ap, subst, arith, Result, OnOk}
 use Rattle.std.specs.FinMap.{get}
 use Rattle.file_model.specs.Images.{Entry, a_file, a_directory, Names, Node, nothing, file, directory, node_of, node_at, is_directory, directory_test}
 use Rattle.file_model.specs.declared.files.Failed.{Failed}
 use Rattle.file_model.specs.declared.files.Kind.{Kind}
 use Rattle.file_model.specs.declared.files.Kind.TheVariants.{File}
-use Rattle.file_model.specs.Kinds.{IsFile, CanMake, kind_of}
-use Rattle.file_model.specs.Paths.{parent, last_part, is_top}
-use Rattle.file_model.specs.Reserved.{is_reserved_name}
+use Rattle.file_model.specs.Kinds.{IsFile, kind_of}
 use Rattle.file_model.specs.Disk.{FileState, MayStand, Disk, seen_names, seen, make, write_at, cut, sync, with_file, written, written_file, cut_file, synced_file, after}
 use Rattle.file_model.specs.Kept.{IsHome, IsOwn, IsWritten, NonePending, IsSound, Sees}
 use Rattle.file_model.specs.Histories.{History, Now, GoesOn, Ended}
@@ -116,17 +114,6 @@ stat_apart P path kind n (w ∷ past) is now = λ there. at (node_at (seen w.dis
     at nothing e there = absurd (cc)
     at directory e there = absurd (cc)
     at (file b) e there = absurd (cc)
-
--- where `stat` finds no file one can be made at a reserved name
-pub stat_makes : (path : List ℕ) (kind : Kind) (h : History) → ((n : ℕ) → kind ≢ File n) → is_reserved_name (last_part path) ≡ true → is_top path ≡ false
-    → Now h (λ w. is_directory (seen w.disk) (parent path) ≡ true) → Now h (λ w. kind ≡ kind_of (node_at (seen w.disk) path)) → Now h (λ w. CanMake (seen w.disk) path)
-stat_makes path kind [] apart reserved below room now = tt
-stat_makes path kind (w ∷ past) apart reserved below room now = record { no_file = at (node_at (seen w.disk) path) now; target = λ there. reserved; room = room; below = below }
-  where
-    at : (node : Node) → kind ≡ kind_of node → (node ≡ nothing) ⊎ (node ≡ directory)
-    at nothing e = inl refl
-    at directory e = inr refl
-    at (file b) e = absurd (apart (length b) e)
 
 module _ (result : Result (Unit {0}) Failed) (old new : History) (path : List ℕ) where
   pub ok_make_shows : Now old (λ w. IsSound w.disk) → GoesOn (make path) result old new → OnOk result (Now new (λ w. Shows path [] w.disk))

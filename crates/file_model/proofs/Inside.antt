@@ -68,7 +68,7 @@ begins : (b s r : List ℕ) → r ≡ b ++ s → Slash r → Slash b
 begins [] s r e slash = inl refl
 begins (x ∷ b) s r e slash = inr (b, ap (λ y. y ∷ b) (head_is x (b ++ s) r slash e))
 
-one_head : (x y : ℕ) (l m : List ℕ) → x ∷ l ≡ y ∷ m → (x ≡ y) × (l ≡ m)
+pub one_head : (x y : ℕ) (l m : List ℕ) → x ∷ l ≡ y ∷ m → (x ≡ y) × (l ≡ m)
 one_head x y l m e = (cc, cc)
 
 pub comparable : (a b r s : List ℕ) → a ++ r ≡ b ++ s → Slash r → Slash s → Under a b ⊎ Under b a
@@ -116,7 +116,7 @@ under_up dir path below is =
     more rest (inr m) name = inr (m.0 ++ 47 ∷ name, ap (λ r. r ++ 47 ∷ name) m.1)
 
 -- the directory of what is inside a directory is under it
-split_behind : (dir rest x y : List ℕ) → split_path rest ≡ Some (x, y) → split_path (dir ++ rest) ≡ Some (dir ++ x, y)
+pub split_behind : (dir rest x y : List ℕ) → split_path rest ≡ Some (x, y) → split_path (dir ++ rest) ≡ Some (dir ++ x, y)
 unfolding split_path
 split_behind [] rest x y e = e
 split_behind (b ∷ dir) rest x y e = ap (with_front b (dir ++ rest)) (split_behind dir rest x y e)

@@ -30,9 +30,6 @@ same_number id = grind arith
 other_number : (n id : ℕ) → n ≢ id → (n == id) ≡ false
 other_number n id apart = grind arith
 
-cases_number : (n id : ℕ) → (n ≡ id) ⊎ (n ≢ id)
-cases_number n id = grind arith
-
 put_other : (id : ℕ) (bytes : List ℕ) (all : ℕ → List ℕ) (n : ℕ) → n ≢ id → put_bytes id bytes all n ≡ all n
 put_other id bytes all n apart = ap (λ b. cond b bytes (all n)) (other_number n id apart)
 

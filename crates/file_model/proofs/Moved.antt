@@ -1,4 +1,4 @@
--- What stands at each path after a directory was moved.
+-- What a map of paths has at each path once the keys at one path and in it were moved to another.
 use Rattle.std.proofs.Common.{◌≡◌, inl, inr, ⊎_elim, ℕ, List, [], ◌∷◌, ◌++◌, drop, length, map, not, Bool, true, false, cond, Option, Some, None, refl, sym, ◌∙◌, ap, subst, T, ◌&&◌}
 use Rattle.std.proofs.lemmas.List.{append_cancel_left}
 use Rattle.std.specs.declared.cmp.Ordering.{Ordering}
@@ -7,12 +7,12 @@ use Rattle.std.specs.Ordering.{is_eq, eq_by_cmp, is_lt}
 use Rattle.std.proofs.lemmas.Map.Lookups.{exact_bytes}
 use Rattle.std.specs.List.{AllByRecursion}
 use Rattle.std.proofs.lemmas.Bool.{cases_Bool}
-use Rattle.std.specs.FinMap.{get, retain_keys, entries, entries_sorted, get-entries, get-from_entries, get-retain_keys}
+use Rattle.std.specs.FinMap.{FinMap, get, retain_keys, entries, entries_sorted, get-entries, get-from_entries, get-retain_keys}
 use Rattle.std.specs.FinMap.Entries.{find, is_sorted, below_all}
 use Rattle.std.proofs.lemmas.Cmp.{nat_list_cmp_total}
 use Rattle.file_model.specs.Paths.{is_at_or_inside}
-use Rattle.file_model.specs.Images.{Entry, Names, path_cmp}
-use Rattle.file_model.specs.Disk.{moved_directory, moved_path, done}
+use Rattle.file_model.specs.Images.{path_cmp}
+use Rattle.file_model.specs.Disk.{moved_keys, moved_path}
 use Rattle.file_model.proofs.Names.{cases_path, same_path, other_path}
 use Rattle.file_model.proofs.Inside.{Under, under_is, under_test, comparable, drop_dir, not_both}
 
@@ -30,27 +30,27 @@ pub split_and : (a b : Bool) → T (a && b) → T a × T b
 split_and true b h = (tt, h)
 split_and false b h = absurd h
 
-found_behind : (x : List ℕ × Entry) (xs ys : List (List ℕ × Entry)) → T (below_all path_cmp x.0 ys) → AllByRecursion (λ e. find path_cmp e.0 xs ≡ Some e.1) ys → AllByRecursion (λ e. find path_cmp e.0 (x ∷ xs) ≡ Some e.1) ys
+found_behind : {V : Type 0} (x : List ℕ × V) (xs ys : List (List ℕ × V)) → T (below_all path_cmp x.0 ys) → AllByRecursion (λ e. find path_cmp e.0 xs ≡ Some e.1) ys → AllByRecursion (λ e. find path_cmp e.0 (x ∷ xs) ≡ Some e.1) ys
 found_behind x xs [] below all = tt
 found_behind x xs (y ∷ ys) below all =
     let parts = split_and (is_lt (path_cmp x.0 y.0)) (below_all path_cmp x.0 ys) below in
     (ap (λ b. cond b (Some x.1) (find path_cmp y.0 xs)) (less_apart x.0 y.0 parts.0) ∙ all.0, found_behind x xs ys parts.1 all.1)
 
 -- each entry of a list in order is found under its key
-pub entries_found : (es : List (List ℕ × Entry)) → T (is_sorted path_cmp es) → AllByRecursion (λ e. find path_cmp e.0 es ≡ Some e.1) es
+pub entries_found : {V : Type 0} (es : List (List ℕ × V)) → T (is_sorted path_cmp es) → AllByRecursion (λ e. find path_cmp e.0 es ≡ Some e.1) es
 entries_found [] in_order = tt
 entries_found (x ∷ xs) in_order =
     let parts = split_and (below_all path_cmp x.0 xs) (is_sorted path_cmp xs) in_order in
     (ap (λ b. cond b (Some x.1) (find path_cmp x.0 xs)) (same_path x.0), found_behind x xs xs parts.0 (entries_found xs parts.1))
 
-each_entry : (P Q : List ℕ × Entry → Type 0) → ((e : List ℕ × Entry) → P e → Q e) → (es : List (List ℕ × Entry)) → AllByRecursion P es → AllByRecursion Q es
+each_entry : {V : Type 0} (P Q : List ℕ × V → Type 0) → ((e : List ℕ × V) → P e → Q e) → (es : List (List ℕ × V)) → AllByRecursion P es → AllByRecursion Q es
 each_entry P Q on [] all = tt
 each_entry P Q on (e ∷ es) all = (on e all.0, each_entry P Q on es all.1)
 
 -- ---- Keys that move
 
 -- what is found where one key moved to
-found_moved : (f : List ℕ → List ℕ) (q p : List ℕ) → f p ≡ q → (es : List (List ℕ × Entry)) → AllByRecursion (λ e. f e.0 ≡ q → e.0 ≡ p) es
+found_moved : {V : Type 0} (f : List ℕ → List ℕ) (q p : List ℕ) → f p ≡ q → (es : List (List ℕ × V)) → AllByRecursion (λ e. f e.0 ≡ q → e.0 ≡ p) es
     → find path_cmp q (map (λ e. (f e.0, e.1)) es) ≡ find path_cmp p es
 found_moved f q p to [] only = refl
 found_moved f q p to (e ∷ es) only = elim (cases_path q (f e.0)) [
@@ -67,7 +67,7 @@ found_moved f q p to (e ∷ es) only = elim (cases_path q (f e.0)) [
     other b c is = ap (λ x. cond x (Some e.1) (find path_cmp p es)) is
 
 -- and where none moved to
-none_moved : (f : List ℕ → List ℕ) (q : List ℕ) (es : List (List ℕ × Entry)) → AllByRecursion (λ e. f e.0 ≡ q → ⊥) es → find path_cmp q (map (λ e. (f e.0, e.1)) es) ≡ None
+none_moved : {V : Type 0} (f : List ℕ → List ℕ) (q : List ℕ) (es : List (List ℕ × V)) → AllByRecursion (λ e. f e.0 ≡ q → ⊥) es → find path_cmp q (map (λ e. (f e.0, e.1)) es) ≡ None
 none_moved f q [] none = refl
 none_moved f q (e ∷ es) none =
     ap (λ b. cond b (Some e.1) (find path_cmp q (map (λ e. (f e.0, e.1)) es))) (other_path (f e.0) q (λ same. none.0 (sym same))) ∙ none_moved f q es none.1
@@ -78,11 +78,11 @@ abbrev pub Apart : List ℕ → List ℕ → Type 0
 Apart from to = (is_at_or_inside from to ≡ false) × (is_at_or_inside to from ≡ false)
 
 -- what stood at the directory or in it stands at the other path in the same way, nothing stands where it was, and the rest stays
-abbrev pub moved_entry : List ℕ → List ℕ → Names → List ℕ → Option Entry
+abbrev pub moved_entry : {V : Type 0} → List ℕ → List ℕ → FinMap path_cmp V → List ℕ → Option V
 moved_entry from to names q = cond (is_at_or_inside to q) (get names (from ++ drop (length to) q)) (cond (is_at_or_inside from q) None (get names q))
 
 -- the names that aren't under the new path
-abbrev kept : List ℕ → Names → Names
+abbrev kept : {V : Type 0} → List ℕ → FinMap path_cmp V → FinMap path_cmp V
 kept to names = retain_keys names (λ path. not (is_at_or_inside to path))
 
 module _ (from to : List ℕ) (apart : Apart from to) where
@@ -112,13 +112,13 @@ module _ (from to : List ℕ) (apart : Apart from to) where
         slash = u.slash;
       })
 
-  module _ (names : Names) where
+  module _ {V : Type 0} (names : FinMap path_cmp V) where
     get_kept : (q : List ℕ) → find path_cmp q (entries (kept to names)) ≡ cond (not (is_at_or_inside to q)) (get names q) None
     get_kept q = sym (get-entries (kept to names) q)
         ∙ get-retain_keys names (λ path. not (is_at_or_inside to path)) q (λ x tied. ap (λ z. not (is_at_or_inside to z)) (sym (exact_bytes q x tied)))
 
     -- a key that was kept isn't under the new path
-    pub beside_new : (e : List ℕ × Entry) → find path_cmp e.0 (entries (kept to names)) ≡ Some e.1 → is_at_or_inside to e.0 ≡ false
+    pub beside_new : (e : List ℕ × V) → find path_cmp e.0 (entries (kept to names)) ≡ Some e.1 → is_at_or_inside to e.0 ≡ false
     beside_new e found = at (is_at_or_inside to e.0) refl (sym (get_kept e.0) ∙ found)
       where
         at : (b : Bool) → is_at_or_inside to e.0 ≡ b → cond (not b) (get names e.0) None ≡ Some e.1 → is_at_or_inside to e.0 ≡ false
@@ -128,19 +128,19 @@ module _ (from to : List ℕ) (apart : Apart from to) where
     in_order : AllByRecursion (λ e. find path_cmp e.0 (entries (kept to names)) ≡ Some e.1) (entries (kept to names))
     in_order = entries_found (entries (kept to names)) (entries_sorted (kept to names))
 
-    whole_get : (q : List ℕ) → get (done (moved_directory from to) names) q
+    whole_get : (q : List ℕ) → get (moved_keys from to names) q
         ≡ find path_cmp q (map (λ e. (moved_path from to e.0, e.1)) (entries (kept to names)))
     whole_get q = get-from_entries nat_list_cmp_total (map (λ e. (moved_path from to e.0, e.1)) (entries (kept to names))) q
 
     -- one key moved there
     one_moved : (q p : List ℕ) → moved_path from to p ≡ q → is_at_or_inside to p ≡ false → ((k : List ℕ) → is_at_or_inside to k ≡ false → moved_path from to k ≡ q → k ≡ p)
-        → get (done (moved_directory from to) names) q ≡ get names p
+        → get (moved_keys from to names) q ≡ get names p
     one_moved q p comes beside only =
         whole_get q
         ∙ found_moved (moved_path from to) q p comes (entries (kept to names)) (each_entry _ _ (λ e found. only e.0 (beside_new e found)) _ in_order)
         ∙ get_kept p ∙ ap (λ b. cond (not b) (get names p) None) beside
 
-    under_new : (q : List ℕ) → is_at_or_inside to q ≡ true → get (done (moved_directory from to) names) q ≡ get names (from ++ drop (length to) q)
+    under_new : (q : List ℕ) → is_at_or_inside to q ≡ true → get (moved_keys from to names) q ≡ get names (from ++ drop (length to) q)
     under_new q is = one_moved q (from ++ drop (length to) q) comes beside only
       where
         p_is : from ++ drop (length to) q ≡ from ++ (under_is to q is).rest
@@ -167,20 +167,20 @@ module _ (from to : List ℕ) (apart : Apart from to) where
             (λ beside. absurd (not_both (is_at_or_inside to q) is (ap (is_at_or_inside to) (sym (sym (moves_beside k beside) ∙ same)) ∙ outside)))
             (cases_Bool (is_at_or_inside from k))
 
-    under_old : (q : List ℕ) → is_at_or_inside to q ≡ false → is_at_or_inside from q ≡ true → get (done (moved_directory from to) names) q ≡ None
+    under_old : (q : List ℕ) → is_at_or_inside to q ≡ false → is_at_or_inside from q ≡ true → get (moved_keys from to names) q ≡ None
     under_old q outside is =
         whole_get q ∙ none_moved (moved_path from to) q (entries (kept to names)) (each_entry _ _ (λ e found same. ⊎_elim
         (λ inside. not_both (is_at_or_inside to q) (ap (is_at_or_inside to) (sym same) ∙ moved_under e.0 inside) outside)
         (λ beside. not_both (is_at_or_inside from q) is (ap (is_at_or_inside from) (sym (sym (moves_beside e.0 beside) ∙ same)) ∙ beside))
         (cases_Bool (is_at_or_inside from e.0))) _ in_order)
 
-    under_none : (q : List ℕ) → is_at_or_inside to q ≡ false → is_at_or_inside from q ≡ false → get (done (moved_directory from to) names) q ≡ get names q
+    under_none : (q : List ℕ) → is_at_or_inside to q ≡ false → is_at_or_inside from q ≡ false → get (moved_keys from to names) q ≡ get names q
     under_none q outside beside = one_moved q q (moves_beside q beside) outside (λ k out same. ⊎_elim
         (λ inside. absurd (not_both (is_at_or_inside to q) (ap (is_at_or_inside to) (sym same) ∙ moved_under k inside) outside))
         (λ apart. sym (moves_beside k apart) ∙ same)
         (cases_Bool (is_at_or_inside from k)))
 
-    pub get_moved : (q : List ℕ) → get (done (moved_directory from to) names) q ≡ moved_entry from to names q
+    pub get_moved : (q : List ℕ) → get (moved_keys from to names) q ≡ moved_entry from to names q
     get_moved q = ⊎_elim
         (λ new. under_new q new ∙ sym (ap (λ b. cond b (get names (from ++ drop (length to) q)) (cond (is_at_or_inside from q) None (get names q))) new))
         (λ outside. ⊎_elim

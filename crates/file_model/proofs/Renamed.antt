@@ -51,7 +51,7 @@ module _ (from to : List ℕ) (disk : Disk) (sound : IsSound disk) (can : CanMov
         ∙ node_moved from to (free_apart disk from to sound can) (seen_names disk) (seen disk).bytes path;
   }
 
-failed_moves : (from to : List ℕ) (call : Call) (d e : Disk) → MovesWhole from to d (after call d) → AfterFailed call d e → MovesWhole from to d e
+pub failed_moves : (from to : List ℕ) (call : Call) (d e : Disk) → MovesWhole from to d (after call d) → AfterFailed call d e → MovesWhole from to d e
 failed_moves from to call d e moves failed = record { each = λ image left. ⊎_elim (λ was. (image, was, inl (λ path. refl))) (λ is. moves.each image is) (failed.each image left) }
 
 -- something was renamed

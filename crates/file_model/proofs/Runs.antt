@@ -64,6 +64,10 @@ ran_then {R = R} {S = S} {T = T} same first then (start ∷ past) mid new one tw
   each = joined R S T same first then start past one.added two.added one.each (subst (λ h. Now h (λ mid. AllByRecursion (λ w. (w.streams ≡ mid.streams) × S mid.disk w.disk) two.added)) one.whole (told _ mid two.added two.each));
 }
 
+-- two runs that change files alone, whatever they change
+pub files_then : (old mid new : History) → Ran (λ start instant. Unit {0}) old mid → Ran (λ start instant. Unit {0}) mid new → Ran (λ start instant. Unit {0}) old new
+files_then old mid new one two = ran_then (λ a. tt) (λ a b r. r) (λ a b c r s. s) old mid new one two
+
 -- a call is a run of one instant, or where it failed of two or none
 pub ran_call : (P : Disk → Type 0) (R : Disk → Disk → Type 0) (call : Call)
     → ((d : Disk) → P d → R d (after call d)) → ((d e : Disk) → P d → AfterFailed call d e → R d e)
@@ -99,6 +103,28 @@ ended_then R further [] mid new one two = subst (λ h. Ended R h new) one two
 ended_then R further (a ∷ past) [] new one two = absurd one
 ended_then R further (a ∷ past) (b ∷ more) [] one two = two
 ended_then R further (a ∷ past) (b ∷ more) (c ∷ rest) one two = further a.disk b.disk c.disk one two
+
+-- a run and then another, with what is known at the start and between them
+pub ended_two : (P M : Disk → Type 0) (R S T : Disk → Disk → Type 0) → ((a b c : Disk) → P a → M b → R a b → S b c → T a c)
+    → (old mid new : History) → Now old (λ w. P w.disk) → Now mid (λ w. M w.disk) → Ended R old mid → Ended S mid new → Ended T old new
+ended_two P M R S T join [] mid new now m one two = subst (λ h. Ended S h new) one two
+ended_two P M R S T join (a ∷ past) [] new now m one two = absurd one
+ended_two P M R S T join (a ∷ past) (b ∷ more) [] now m one two = two
+ended_two P M R S T join (a ∷ past) (b ∷ more) (c ∷ rest) now m one two = join a.disk b.disk c.disk now m one two
+
+-- what a run's end is to its start, by what is known at both
+pub ended_known : (P M : Disk → Type 0) (R T : Disk → Disk → Type 0) → ((a b : Disk) → P a → M b → R a b → T a b)
+    → (old new : History) → Now old (λ w. P w.disk) → Now new (λ w. M w.disk) → Ended R old new → Ended T old new
+ended_known P M R T on [] new now m ended = ended
+ended_known P M R T on (a ∷ past) [] now m ended = ended
+ended_known P M R T on (a ∷ past) (b ∷ more) now m ended = on a.disk b.disk now m ended
+
+-- what holds at a run's end by what held at its start, and by what else is known at its end
+pub known_gives : (P M Q : Disk → Type 0) (R : Disk → Disk → Type 0) → ((a b : Disk) → P a → M b → R a b → Q b)
+    → (old new : History) → Now old (λ w. P w.disk) → Now new (λ w. M w.disk) → Ended R old new → Now new (λ w. Q w.disk)
+known_gives P M Q R on [] new now m ended = subst (λ h. Now h (λ w. Q w.disk)) (sym ended) tt
+known_gives P M Q R on (a ∷ past) [] now m ended = tt
+known_gives P M Q R on (a ∷ past) (b ∷ more) now m ended = on a.disk b.disk now m ended
 
 -- what holds at the start and passes on holds at the end
 pub ended_now : (P : Disk → Type 0) (R : Disk → Disk → Type 0) → ((a b : Disk) → P a → R a b → P b) → (old new : History) → Now old (λ w. P w.disk) → Ended R old new → Now new (λ w. P w.disk)

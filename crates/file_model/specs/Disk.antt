@@ -1,9 +1,9 @@
 -- What each call does to a disk, and what a crash may leave of it.
 use Rattle.std.specs.Prelude.{ℕ, Bool, List, [], ◌∷◌, ◌++◌, ◌+◌, ◌<◌, ◌≤◌, ◌==◌, ◌||◌, ◌≡◌, ◌⊎◌, not, max, Option, Some, None, if◌then◌else◌, take, drop, length, map, slice_index}
 use Rattle.std.specs.Str.{bytes_eq}
-use Rattle.std.specs.FinMap.{get, insert, remove, retain_keys, from_entries, entries}
+use Rattle.std.specs.FinMap.{FinMap, get, insert, remove, retain_keys, from_entries, entries}
 use Rattle.file_model.specs.Paths.{parent, is_at_or_inside}
-use Rattle.file_model.specs.Images.{Entry, a_file, a_directory, Names, Image}
+use Rattle.file_model.specs.Images.{path_cmp, Entry, a_file, a_directory, Names, Image}
 
 -- ---- Contents
 
@@ -51,12 +51,15 @@ pub data DirectoryOperation : Type 0 where
 abbrev pub moved_path : List ℕ → List ℕ → List ℕ → List ℕ
 moved_path from to path = if is_at_or_inside from path then to ++ drop (length from) path else path
 
+-- a map of paths once what stood at one path, and all in it, was moved to another
+abbrev pub moved_keys : {V : Type 0} → List ℕ → List ℕ → FinMap path_cmp V → FinMap path_cmp V
+moved_keys from to map_of_paths = from_entries (map (λ e. (moved_path from to e.0, e.1)) (entries (retain_keys map_of_paths (λ path. not (is_at_or_inside to path)))))
+
 abbrev pub done : DirectoryOperation → Names → Names
 done (made path id) names = insert names path (a_file id)
 done (made_directory path) names = insert names path a_directory
 done (moved_file from to id) names = insert (remove names from) to (a_file id)
-done (moved_directory from to) names =
-    from_entries (map (λ e. (moved_path from to e.0, e.1)) (entries (retain_keys names (λ path. not (is_at_or_inside to path)))))
+done (moved_directory from to) names = moved_keys from to names
 done (removed path) names = remove names path
 
 -- the newest stands first

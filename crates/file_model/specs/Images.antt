@@ -5,7 +5,7 @@ use Rattle.std.specs.Ordering.{nat_cmp}
 use Rattle.std.specs.Cmp.Lexicographic.{slice_cmp}
 use Rattle.std.specs.List.{filter_map, list_any}
 use Rattle.std.specs.FinMap.{FinMap, get, keys}
-use Rattle.file_model.specs.Paths.{is_inside}
+use Rattle.file_model.specs.Paths.{parent, is_top, is_inside}
 
 -- by rising bytes
 abbrev pub path_cmp : List ℕ → List ℕ → Ordering
@@ -69,6 +69,18 @@ name_within dir path =
 abbrev pub names_in : Image → List ℕ → List (List ℕ)
 names_in image dir = filter_map (name_within dir) (keys image.names)
 
+-- nothing stands at a path
+abbrev pub HasNothing : List ℕ → Image → Type 0
+HasNothing path image = node_at image path ≡ nothing
+
 -- two images agree at a path
 abbrev pub Agree : List ℕ → Image → Image → Type 0
 Agree path one other = node_at one path ≡ node_at other path
+
+-- one image has at a path what another has at another
+abbrev pub AgreeAcross : List ℕ → List ℕ → Image → Image → Type 0
+AgreeAcross from to one other = node_at other to ≡ node_at one from
+
+-- what stands below a top stands in a directory
+pub record IsRooted (image : Image) : Type 0 where
+  pub above : (path : List ℕ) → (HasNothing path image → ⊥) → is_top path ≡ false → is_directory image (parent path) ≡ true

@@ -1,7 +1,7 @@
 -- What calls keep, as the crates above say it.
 use Rattle.std.specs.Prelude.{ℕ, Bool, List, [], ◌++◌, ◌≡◌, ◌≢◌, ◌⊎◌, ◌<◌, ◌≤◌, Some, take, drop, length, false, if◌then◌else◌}
 use Rattle.std.specs.FinMap.{get}
-use Rattle.file_model.specs.Images.{Image, Names, Entry, Node, Agree, bytes_at, text_at, a_file, a_directory, node_at, nothing, file, is_directory}
+use Rattle.file_model.specs.Images.{Image, Names, Entry, Node, Agree, bytes_at, text_at, a_file, a_directory, node_at, nothing, file, directory, is_directory}
 use Rattle.file_model.specs.Kinds.{IsFile, CanMake}
 use Rattle.file_model.specs.Paths.{parent, is_top, is_at_or_inside, temporary_of}
 use Rattle.file_model.specs.Disk.{Disk, MayStand, MayLeave, IsPossible, AreBytes, left_pending_by, seen_names, seen}
@@ -33,6 +33,12 @@ pub record MovesWhole (from to : List ℕ) (old new : Disk) : Type 0 where
 -- reads see all at its new place
 pub record SeesMoved (from to : List ℕ) (old new : Disk) : Type 0 where
   pub each : (path : List ℕ) → node_at (seen new) path ≡ moved_node from to (seen old) path
+
+-- a directory was made where nothing stood, and all else stays
+pub record MadeDirectory (path : List ℕ) (start end : Image) : Type 0 where
+  pub was : node_at start path ≡ nothing
+  pub is : node_at end path ≡ directory
+  pub rest : (q : List ℕ) → q ≢ path → Agree q end start
 
 -- The image agrees with one that a crash might have left of a disk; but where reads saw nothing at one path, and nothing stood there, it may have the empty file.
 pub record IsLeftOrMade (place : List ℕ) (disk : Disk) (image : Image) : Type 0 where
