@@ -6,8 +6,8 @@ use Rattle.file_model.specs.Disk.{Disk, MayStand, MayLeave, seen, seen_names, af
 use Rattle.file_model.specs.Histories.{History, Now, GoesOn, Ran, Ended}
 use Rattle.file_model.specs.Images.{Image, Entry, a_file, a_directory, Names, node_of, node_at, nothing, Agree, HasNothing}
 use Rattle.file_model.specs.Kept.{IsSound, MovesWhole, SeesMoved, moved_node}
-use Rattle.file_model.specs.Kinds.{IsFile}
-use Rattle.file_model.specs.Paths.{child, is_at_or_inside}
+use Rattle.file_model.specs.Kinds.{CanMoveFile}
+use Rattle.file_model.specs.Paths.{child, split_path, is_top, is_at_or_inside}
 use Rattle.file_model.proofs.Calls.{file_entry}
 use Rattle.file_model.proofs.Inside.{Slash, Under, under_is, under_test, drop_dir, not_both}
 use Rattle.file_model.proofs.Names.{all_may_stand, get-insert_same, get-insert_other, get-remove_same, get-remove_other}
@@ -75,20 +75,25 @@ module _ (from to : List ℕ) (some_from : from ≢ []) (some_to : to ≢ []) (n
 
 -- ---- On disks
 
--- a file stands at one path, and nothing at another
-pub record IsMovableFile (from to : List ℕ) (disk : Disk) : Type 0 where
-  pub sound : IsSound disk
-  pub is_file : IsFile (seen disk) from 0
-  pub free : HasNothing to (seen disk)
+top_is : is_top [] ≡ true
+unfolding split_path
+top_is = refl
 
-module _ (from to : List ℕ) (some_from : from ≢ []) (some_to : to ≢ []) (disk : Disk) (can : IsMovableFile from to disk) where
+-- a file can be moved on this disk, and nothing stands where it is to come
+abbrev IsMovableFile : List ℕ → List ℕ → Disk → Type 0
+IsMovableFile from to disk = IsSound disk × CanMoveFile (seen disk) from to × HasNothing to (seen disk)
+
+module _ (from to : List ℕ) (some_from : from ≢ []) (disk : Disk) (sound : IsSound disk) (can : CanMoveFile (seen disk) from to) (free : HasNothing to (seen disk)) where
   entry : (id : ℕ) × (get (seen_names disk) from ≡ Some (a_file id)) × ((seen disk).bytes id ≡ can.is_file.0)
   entry = file_entry (seen disk).bytes (get (seen_names disk) from) can.is_file.0 can.is_file.1
 
+  some_to : to ≢ []
+  some_to none = not_both (is_top to) (ap is_top none ∙ top_is) can.below
+
   moves : (bytes : ℕ → List ℕ) (path : List ℕ) → node_of bytes (get (done (moved_file from to entry.0) (seen_names disk)) path) ≡ moved_node from to (record { names = seen_names disk; bytes = bytes }) path
   moves bytes path = node_moved_file from to some_from some_to (seen_names disk)
-      (λ path e there below. can.sound.rooted (seen_names disk) (all_may_stand disk.durable disk.pending) path e there below)
-      entry.0 entry.1 (no_entry (seen disk).bytes (get (seen_names disk) to) can.free) bytes path
+      (λ path e there below. sound.rooted (seen_names disk) (all_may_stand disk.durable disk.pending) path e there below)
+      entry.0 entry.1 (no_entry (seen disk).bytes (get (seen_names disk) to) free) bytes path
 
   pub moves_whole_file : MovesWhole from to disk (after (rename from to) disk)
   moves_whole_file = record { each = λ image left. split image left (subst (λ e. MayStand disk.durable (renamed from to e ∷ disk.pending) image.names) entry.1 left.names) }
@@ -107,10 +112,11 @@ module _ (from to : List ℕ) (some_from : from ≢ []) (some_to : to ≢ []) (d
 
 -- ---- On histories
 
-module _ (result : Result (Unit {0}) Failed) (old new : History) (from to : List ℕ) (some_from : from ≢ []) (some_to : to ≢ []) (now : Now old (λ w. IsMovableFile from to w.disk)) where
+module _ (result : Result (Unit {0}) Failed) (old new : History) (from to : List ℕ) (some_from : from ≢ [])
+    (now : Now old (λ w. IsSound w.disk × CanMoveFile (seen w.disk) from to × HasNothing to (seen w.disk))) where
   pub ran_move_file : GoesOn (rename from to) result old new → Ran (MovesWhole from to) old new
-  ran_move_file on = ran_call (IsMovableFile from to) (MovesWhole from to) (rename from to) (λ d p. moves_whole_file from to some_from some_to d p)
-      (λ d e p. failed_moves from to (rename from to) d e (moves_whole_file from to some_from some_to d p)) result old new now on
+  ran_move_file on = ran_call (IsMovableFile from to) (MovesWhole from to) (rename from to) (λ d p. moves_whole_file from to some_from d p.0 p.1 p.2)
+      (λ d e p. failed_moves from to (rename from to) d e (moves_whole_file from to some_from d p.0 p.1 p.2)) result old new now on
 
   pub sees_ok_move_file : GoesOn (rename from to) result old new → OnOk result (Ended (SeesMoved from to) old new)
-  sees_ok_move_file on = ended_call (IsMovableFile from to) (SeesMoved from to) (rename from to) (λ d p. sees_moved_file from to some_from some_to d p) result old new now on
+  sees_ok_move_file on = ended_call (IsMovableFile from to) (SeesMoved from to) (rename from to) (λ d p. sees_moved_file from to some_from d p.0 p.1 p.2) result old new now on
