@@ -14,8 +14,14 @@ use Rattle.std.proofs.lemmas.Map.Text.{is_eq-slice_cmp}
 use Rattle.std.proofs.lemmas.Slice.Eq.{bytes_eq-Decides}
 use Rattle.std.specs.FinMap.{get, entries, entries_sorted, get-entries, slice_cmp-IsAntisymmetric, nat_cmp-IsAntisymmetric}
 use Rattle.std.specs.FinMap.Entries.{find, is_sorted, below_all, is_some-find, same_entries}
+use Rattle.std.specs.List.Sorted.{IsPermutation}
+use Rattle.std.proofs.lemmas.List.{nil_from_length}
+use Rattle.std.proofs.lemmas.List.Sorted.{length_permutation}
+use Rattle.file_model.specs.Disk.{seen}
+use Rattle.file_model.specs.Histories.{History, Now}
+use Rattle.file_model.specs.Kinds.{IsEmptyDirectory}
 use Rattle.file_model.specs.Paths.{child, parent, is_top, is_inside, HasNoSlash}
-use Rattle.file_model.specs.Images.{Entry, a_file, a_directory, Image, Node, nothing, file, directory, node_of, node_at, path_cmp, name_within, names_in, Agree}
+use Rattle.file_model.specs.Images.{Entry, a_file, a_directory, Image, Node, nothing, file, directory, node_of, node_at, is_directory, path_cmp, name_within, names_in, Agree}
 use Rattle.file_model.proofs.Names.{other_path}
 use Rattle.file_model.proofs.Inside.{inside_is, child_inside, named, not_both}
 use Rattle.file_model.proofs.Moved.{split_and}
@@ -216,3 +222,9 @@ names_in_has image dir name = (has, is_had)
 
     is_had : HasNoSlash name × (stands (node_at image (child dir name)) ≡ Some tt) → Contains (names_in image dir) name
     is_had it = Contains-from_any (λ x y same. (bytes_eq-Decides x y).0 (sym (is_eq-slice_cmp x y) ∙ same)) name (names_in image dir) (sym (found (names_in image dir)) ∙ ap is_some (name_stands image dir name (is_plain name it.0) ∙ it.1))
+
+-- a directory whose list of names is empty can be removed
+pub lists_none : (names : List (List ℕ)) (dir : List ℕ) (h : History) → length names ≡ 0 → Now h (λ w. is_directory (seen w.disk) dir ≡ true)
+    → Now h (λ w. IsPermutation names (names_in (seen w.disk) dir)) → Now h (λ w. IsEmptyDirectory (seen w.disk) dir)
+lists_none names dir [] none there listed = tt
+lists_none names dir (w ∷ past) none there listed = record { is_there = there; empty = nil_from_length (names_in (seen w.disk) dir) (length_permutation names (names_in (seen w.disk) dir) listed ∙ none) }
