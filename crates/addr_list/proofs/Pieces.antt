@@ -3,7 +3,8 @@ use Rattle.std.proofs.Common.{◌≡◌, ◌∙◌, ⊎_elim, ℕ, suc, ◌+◌,
 use Rattle.std.specs.List.{prefix_len, list_all}
 use Rattle.std.proofs.lemmas.Bool.{cases_Bool, cond-true, cond-false, false≢true, or_cases, eqb-true, ne_eqb, and_parts, and_from}
 use Rattle.std.proofs.lemmas.List.{length-append, append_assoc, take_at, drop_at, take-append-drop}
-use Rattle.addr_list.specs.Tokens.{Token, run, quoted, literal, mark, AreTokens, none, skip_blank, skip_comment, one_run, one_quoted, one_literal, one_mark, is_blank, is_mark, is_run_byte}
+use Rattle.text_lines.specs.Blanks.{is_blank}
+use Rattle.addr_list.specs.Tokens.{Token, run, quoted, literal, mark, AreTokens, none, skip_blank, skip_comment, one_run, one_quoted, one_literal, one_mark, is_mark, is_run_byte}
 use Rattle.addr_list.specs.Scanning.{Piece, piece_of, comment_piece, quoted_piece, literal_piece, run_piece, comment_len, quotes_len, literal_len}
 use Rattle.addr_list.proofs.Fronts.{front-append, front-all, front-yes, front-stops}
 use Rattle.addr_list.proofs.Comments.{comment-found, comment-read}

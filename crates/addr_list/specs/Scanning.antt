@@ -1,7 +1,8 @@
 -- The first piece of a body, as it is found from the left; `Tokens` says what a piece is.
 use Rattle.std.specs.Prelude.{ℕ, suc, zero, Bool, true, false, List, [], ◌∷◌, ◌==◌, ◌+◌, ◌-◌, if◌then◌else◌, Option, Some, None, length, take, nat_lt}
 use Rattle.std.specs.List.{prefix_len}
-use Rattle.addr_list.specs.Tokens.{Token, run, quoted, literal, mark, is_blank, is_mark, is_run_byte, is_literal_byte}
+use Rattle.text_lines.specs.Blanks.{is_blank}
+use Rattle.addr_list.specs.Tokens.{Token, run, quoted, literal, mark, is_mark, is_run_byte, is_literal_byte}
 use Rattle.addr_list.specs.declared.token.Token as found
 use Rattle.addr_list.specs.declared.token.Token.TheVariants as is
 

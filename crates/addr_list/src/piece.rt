@@ -2,23 +2,19 @@
 ghost use Rattle.std.specs.Prelude.{◌≡◌, MatchOption, Some, None, length, ◌<◌, ◌≤◌, IfSome};
 ghost use Rattle.std.specs.Option.{option_map};
 ghost use Rattle.std.specs.List.{prefix_len};
-ghost use Rattle.addr_list.specs.Tokens.{is_blank, is_mark, is_run_byte};
+ghost use Rattle.text_lines.specs.Blanks.{is_blank};
+ghost use Rattle.addr_list.specs.Tokens.{is_mark, is_run_byte};
 ghost use Rattle.addr_list.specs.Scanning.{piece_of, token_of};
 
 use crate::span::{comment_length, literal_length, quotes_length};
 use crate::token::Token;
+use text_lines::is_blank;
 
 /// How long a piece is, and its token unless it is skipped.
 #[derive(Clone, Copy)]
 pub(crate) struct Piece<'a> {
     pub(crate) width: usize,
     pub(crate) token: Option<Token<'a>>,
-}
-
-fn is_blank(byte: u8) -> bool
-    ensures { result ≡ is_blank byte }
-{
-    byte == b' ' || byte == b'\t'
 }
 
 fn is_mark(byte: u8) -> bool

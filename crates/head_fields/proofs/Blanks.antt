@@ -3,7 +3,8 @@ use Rattle.std.proofs.Common.{◌≡◌, ℕ, ◌+◌, ◌-◌, ◌<◌, ⊎_eli
 use Rattle.std.specs.List.{prefix_len, suffix_len}
 use Rattle.std.proofs.lemmas.Bool.{cases_Bool, cond-true, cond-false, or_cases, eqb-true}
 use Rattle.std.proofs.lemmas.List.{length-drop, length-take-le, append-nil}
-use Rattle.head_fields.specs.Blanks.{is_blank, trim_start, trim_end}
+use Rattle.text_lines.specs.Blanks.{is_blank}
+use Rattle.head_fields.specs.Blanks.{trim_start, trim_end}
 
 pub blank_is : (byte : ℕ) → is_blank byte ≡ true → (byte ≡ 32) ⊎ (byte ≡ 9)
 blank_is byte blank =

@@ -2,8 +2,8 @@
 use Rattle.std.proofs.Common.{◌≡◌, ℕ, zero, suc, ◌+◌, ⊎_elim, true, false, List, [], ◌∷◌, length, take, not, ◌==◌, refl, subst, sym}
 use Rattle.std.specs.List.{list_any, list_all}
 use Rattle.std.proofs.lemmas.Bool.{false≢true, and_left, and_right, cond-true, cond-false}
-use Rattle.head_fields.specs.Blanks.{is_blank}
-use Rattle.head_fields.specs.Fields.{is_colon, is_name_byte, is_name, name_of, begins_field, is_continuation, continuations, field_at, fields_from}
+use Rattle.text_lines.specs.Blanks.{is_blank, is_continuation}
+use Rattle.head_fields.specs.Fields.{is_colon, is_name_byte, is_name, name_of, begins_field, continuations, field_at, fields_from}
 use Rattle.head_fields.proofs.Blanks.{blank_is}
 
 blank-not_in_name : (byte : ℕ) → is_blank byte ≡ true → is_name_byte byte ≡ false

@@ -10,8 +10,8 @@ use Rattle.std.proofs.lemmas.List.Kept.{AllPairs-cons}
 use Rattle.std.proofs.lemmas.List.Sums.{fails_before_first}
 use Rattle.text_lines.specs.Lines.{line_text, line_end_of}
 use Rattle.text_lines.proofs.LineEnds.{text-then-end}
-use Rattle.head_fields.specs.Blanks.{is_blank}
-use Rattle.head_fields.specs.Fields.{is_colon, is_name_byte, is_name, name_of, begins_field, is_continuation, continuations, value_of, field_at, fields_from, StandsWithin}
+use Rattle.text_lines.specs.Blanks.{is_blank, is_continuation}
+use Rattle.head_fields.specs.Fields.{is_colon, is_name_byte, is_name, name_of, begins_field, continuations, value_of, field_at, fields_from, StandsWithin}
 use Rattle.head_fields.specs.declared.field.Field.{Field}
 use Rattle.head_fields.proofs.FieldLines.{continuation-begins_none, fields-of_other, fields-of_first}
 

@@ -8,8 +8,8 @@ use Rattle.std.proofs.lemmas.List.Sums.{take_while-cons}
 use Rattle.text_lines.specs.Lines.{lines_of, line_len, lines_from, header_of, is_empty_line}
 use Rattle.text_lines.proofs.Lines.{IsFirstLine, before-step, no_lines}
 use Rattle.head_fields.specs.Header.{body_start_of, BeginsHeader}
-use Rattle.head_fields.specs.Blanks.{is_blank}
-use Rattle.head_fields.specs.Fields.{is_continuation, continuations}
+use Rattle.text_lines.specs.Blanks.{is_blank, is_continuation}
+use Rattle.head_fields.specs.Fields.{continuations}
 use Rattle.head_fields.proofs.Blanks.{blank_is}
 
 pub header-none : (text : List ℕ) → length text ≡ 0 → header_of text ≡ []

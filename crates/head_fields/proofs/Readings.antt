@@ -6,7 +6,8 @@ use Rattle.std.proofs.lemmas.List.{append_assoc, take-append-drop, drop_at, take
 use Rattle.std.proofs.lemmas.List.Folds.{concat-append}
 use Rattle.text_lines.specs.Lines.{line_end_of}
 use Rattle.text_lines.proofs.LineEnds.{text-then-end}
-use Rattle.head_fields.specs.Fields.{is_colon, name_of, begins_field, is_continuation, continuations, value_of, readings_of, fields_from, reading_in}
+use Rattle.text_lines.specs.Blanks.{is_continuation}
+use Rattle.head_fields.specs.Fields.{is_colon, name_of, begins_field, continuations, value_of, readings_of, fields_from, reading_in}
 use Rattle.head_fields.proofs.FieldLines.{fields-of_other, fields-of_first}
 use Rattle.head_fields.proofs.FieldPlaces.{colon-inside, name-front}
 

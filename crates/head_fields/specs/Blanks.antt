@@ -1,10 +1,7 @@
--- Spaces and tabs, the white space of a header (WSP of RFC 5234, appendix B.1).
-use Rattle.std.specs.Prelude.{ℕ, Bool, List, ◌==◌, ◌||◌, ◌-◌, length, take, drop}
+-- Bytes without the spaces and tabs at their ends.
+use Rattle.std.specs.Prelude.{ℕ, List, ◌-◌, length, take, drop}
 use Rattle.std.specs.List.{prefix_len, suffix_len}
-
--- a space or a tab
-abbrev pub is_blank : ℕ → Bool
-is_blank byte = (byte == 32) || (byte == 9)
+use Rattle.text_lines.specs.Blanks.{is_blank}
 
 -- the bytes without the blanks that they begin with
 abbrev pub trim_start : List ℕ → List ℕ

@@ -1,8 +1,9 @@
 -- The fields of a header: their names and values, and where these stand (RFC 5322, section 2.2).
 use Rattle.std.specs.Prelude.{ℕ, Bool, false, not, List, [], ◌∷◌, ◌++◌, ◌+◌, ◌==◌, ◌<◌, ◌≤◌, ◌&&◌, if◌then◌else◌, nat_le, length, slice_range}
 use Rattle.std.specs.List.{before_first, after_first, position_or_len, take_while, list_any, list_all, concat}
+use Rattle.text_lines.specs.Blanks.{is_continuation}
 use Rattle.text_lines.specs.Lines.{header_of, line_text}
-use Rattle.head_fields.specs.Blanks.{is_blank, trim_end}
+use Rattle.head_fields.specs.Blanks.{trim_end}
 use Rattle.head_fields.specs.declared.span.Span.{Span}
 use Rattle.head_fields.specs.declared.field.Field.{Field}
 
@@ -25,11 +26,6 @@ name_of line = trim_end (before_first is_colon line)
 -- a line that begins a field has a name before its first colon, so it begins with no blank
 abbrev pub begins_field : List ℕ → Bool
 begins_field line = list_any is_colon line && is_name (name_of line)
-
--- a line that begins with a blank continues the field before it (RFC 5322, section 2.2.3)
-abbrev pub is_continuation : List ℕ → Bool
-is_continuation [] = false
-is_continuation (byte ∷ rest) = is_blank byte
 
 -- the lines in front that continue a field
 abbrev pub continuations : List (List ℕ) → List (List ℕ)

@@ -1,12 +1,8 @@
 // Spaces and tabs at the ends of some bytes.
 ghost use Rattle.std.specs.Prelude.{◌≡◌};
-ghost use Rattle.head_fields.specs.Blanks.{is_blank, trim_start, trim_end};
+ghost use Rattle.head_fields.specs.Blanks.{trim_start, trim_end};
 
-pub(crate) fn is_blank(byte: u8) -> bool
-    ensures { result ≡ is_blank byte }
-{
-    byte == b' ' || byte == b'\t'
-}
+use text_lines::is_blank;
 
 pub(crate) fn trim_start(bytes: &[u8]) -> &[u8]
     ensures { result.now ≡ trim_start bytes.now }

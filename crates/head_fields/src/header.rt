@@ -5,12 +5,11 @@ ghost use Rattle.text_lines.specs.Lines.{header_of};
 ghost use Rattle.head_fields.specs.Header.{body_start_of, BeginsHeader};
 ghost use Rattle.head_fields.specs.Fields.{fields_of, fields_from, readings_of, reading_in, StandsWithin, continuations, span_at};
 
-use crate::blank::is_blank;
 use crate::field::Field;
 use crate::name::read_name;
 use crate::span::Span;
 use std::alloc::{AllocError, Global};
-use text_lines::{is_empty_line, line_length, line_text};
+use text_lines::{is_blank, is_empty_line, line_length, line_text};
 
 /// The offset of a text's body, behind the first empty line; the text's length where it has none.
 pub fn body_start(text: &[u8]) -> usize

@@ -2,11 +2,8 @@
 use Rattle.std.specs.Prelude.{◌≡◌, ℕ, Bool, false, not, List, [], ◌∷◌, ◌+◌, ◌<◌, ◌≤◌, ◌==◌, ◌||◌, ◌&&◌, if◌then◌else◌, Option, Some, None, length, take, drop}
 use Rattle.std.specs.List.{concat, list_all, prefix_len, before_first}
 use Rattle.std.specs.Str.{bytes_eq}
+use Rattle.text_lines.specs.Blanks.{is_blank}
 use Rattle.text_lines.specs.Lines.{lines_of, line_text}
-
--- a space or a tab
-abbrev pub is_blank : ℕ → Bool
-is_blank b = (b == 32) || (b == 9)
 
 -- what a line has behind `--boundary`, without its line end; none where it begins otherwise
 abbrev pub after_boundary : List ℕ → List ℕ → Option (List ℕ)

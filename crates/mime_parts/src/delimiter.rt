@@ -2,17 +2,18 @@
 ghost use Rattle.std.specs.Prelude.{◌≡◌, ◌+◌, ◌++◌, ◌<◌, ◌≤◌, ◌&&◌, true, length, drop, map, nat_lt, slice_range, if◌then◌else◌, All, IfOk, OnOk, MatchOption, Some, None};
 ghost use Rattle.std.specs.List.{list_all};
 ghost use Rattle.text_lines.specs.Lines.{lines_of, line_text};
-ghost use Rattle.mime_parts.specs.Delimiters.{is_blank, after_boundary, opens_part, closes_parts, is_delimiter, text_before, lines_before, lines_from_delimiter, parts_of_body, BeginsLines};
+ghost use Rattle.text_lines.specs.Blanks.{is_blank};
+ghost use Rattle.mime_parts.specs.Delimiters.{after_boundary, opens_part, closes_parts, is_delimiter, text_before, lines_before, lines_from_delimiter, parts_of_body, BeginsLines};
 ghost use Rattle.mime_parts.specs.Marks.{ends_line, opened_part, section_in, IsTail, IsSection, EndsAt};
 
 use crate::mark::{Mark, Tail, first_marks, next_dashed};
 use std::alloc::{AllocError, Global};
-use text_lines::{line_length, line_text};
+use text_lines::{is_blank, line_length, line_text};
 
 fn are_blanks(bytes: &[u8]) -> bool
     ensures { result ≡ list_all is_blank bytes.now }
 {
-    bytes.iter().all(|byte| *byte == b' ' || *byte == b'\t')
+    bytes.iter().all(|byte| is_blank(*byte))
 }
 
 // What a line has behind `--boundary`.

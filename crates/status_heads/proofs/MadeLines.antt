@@ -7,10 +7,10 @@ use Rattle.std.proofs.lemmas.List.Sums.{take_while-cons}
 use Rattle.std.proofs.Math.Dec.{eqb-suc-zero}
 use Rattle.text_lines.specs.Lines.{line_text, is_line_end, is_empty_line}
 use Rattle.text_lines.proofs.Texts.{is_closed}
-use Rattle.text_forms.specs.Lines.{is_reserved, is_continuation}
+use Rattle.text_lines.specs.Blanks.{is_continuation}
+use Rattle.text_forms.specs.Lines.{is_reserved}
 use Rattle.text_forms.proofs.LineEnds.{no-end-behind, closed-before}
 use Rattle.head_fields.specs.Fields.{is_colon, name_of, begins_field, continuations, value_of, readings_of}
-use Rattle.head_fields.specs.Fields.{is_continuation as continues}
 use Rattle.head_fields.specs.Folding.{unfolded}
 use Rattle.status_heads.specs.Fields.{value_named}
 use Rattle.status_heads.specs.HeadTexts.{field_line, lines_of_field}
@@ -89,11 +89,7 @@ module _ (name value : List ℕ) (is : IsReservedName name) (clean : is_clean va
 
   none-continues : (rest : List (List ℕ)) → Each IsMade rest → continuations rest ≡ []
   none-continues [] each = refl
-  none-continues (line ∷ rest) each = take_while-cons continues line rest ∙ cond-false (continues line) (line ∷ continuations rest) [] (same-test line ∙ each.0.first)
-    where
-      same-test : (line : List ℕ) → continues line ≡ is_continuation line
-      same-test [] = refl
-      same-test (byte ∷ rest) = refl
+  none-continues (line ∷ rest) each = take_while-cons is_continuation line rest ∙ cond-false (is_continuation line) (line ∷ continuations rest) [] each.0.first
 
   value-is : (rest : List (List ℕ)) → Each IsMade rest → value_of (name ++ 58 ∷ tail) (continuations rest) ≡ 32 ∷ value
   value-is rest each =

@@ -6,7 +6,8 @@ use Rattle.std.specs.Cmp.Derive.{both_true}
 use Rattle.std.proofs.lemmas.Bool.{cases_Bool, and_parts, cond-true, cond-false, false≢true}
 use Rattle.std.proofs.lemmas.List.{take_at, drop_at, length-drop, length-map, length-reverse, get_or-drop, get_or-reverse}
 use Rattle.std.proofs.lemmas.List.Sums.{split_at_first, prefix_len_stops, prefix_len_passes}
-use Rattle.text_forms.specs.Lines.{is_blank, begins_colon, is_field_named, is_reserved}
+use Rattle.text_lines.specs.Blanks.{is_blank}
+use Rattle.text_forms.specs.Lines.{begins_colon, is_field_named, is_reserved}
 use Rattle.head_fields.specs.Fields.{is_colon, name_of, value_of, begins_field, continuations, readings_of}
 use Rattle.head_fields.specs.Folding.{unfolded}
 use Rattle.head_fields.proofs.FieldPlaces.{colon-inside}

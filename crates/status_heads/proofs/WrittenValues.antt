@@ -11,7 +11,8 @@ use Rattle.std.proofs.lemmas.List.Sums.{suffix_len_is, AllPass-from_list_all}
 use Rattle.text_lines.specs.Lines.{lines_of, line_text, is_line_end}
 use Rattle.text_lines.proofs.Texts.{is_open, lines-joined}
 use Rattle.text_forms.proofs.LineEnds.{no-end-behind}
-use Rattle.head_fields.specs.Blanks.{is_blank, trim_start, trim_end}
+use Rattle.text_lines.specs.Blanks.{is_blank}
+use Rattle.head_fields.specs.Blanks.{trim_start, trim_end}
 use Rattle.head_fields.specs.Folding.{unfolded}
 use Rattle.mail_fields.specs.Keyword.{is_atom, is_keyword}
 use Rattle.status_heads.specs.HeadTexts.{letter_if, names_text, spaced_names}

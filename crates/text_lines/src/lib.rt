@@ -4,6 +4,8 @@
 //! Stands on `memchr`, and on `bstr` for what the lines of a text are.
 #![tactic(auto)]
 
+mod blank;
 mod line;
 
+pub use blank::{is_blank, is_continuation};
 pub use line::{is_empty_line, line_length, line_text};

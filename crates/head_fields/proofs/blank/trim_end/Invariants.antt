@@ -1,6 +1,6 @@
 use Rattle.std.proofs.Common.{◌≡◌, ◌+◌, ◌≤◌, length, take}
 use Rattle.std.specs.List.{suffix_len}
-use Rattle.head_fields.specs.Blanks.{is_blank}
+use Rattle.text_lines.specs.Blanks.{is_blank}
 use Rattle.head_fields.proofs.blank.trim_end.Given as goal
 
 abbrev pub invariant-loop-to : goal.invariant-loop-to

@@ -1,6 +1,6 @@
 use Rattle.std.proofs.Common.{◌≡◌, ◌+◌, ◌-◌, ◌≤◌, length, drop}
 use Rattle.std.specs.List.{prefix_len}
-use Rattle.head_fields.specs.Blanks.{is_blank}
+use Rattle.text_lines.specs.Blanks.{is_blank}
 use Rattle.head_fields.proofs.blank.trim_start.Given as goal
 
 abbrev pub invariant-loop-from : goal.invariant-loop-from

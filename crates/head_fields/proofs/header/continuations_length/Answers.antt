@@ -6,8 +6,8 @@ use Rattle.std.proofs.lemmas.List.{append-nil, append_assoc, length-drop, length
 use Rattle.std.proofs.lemmas.List.Sums.{take_while-cons}
 use Rattle.text_lines.specs.Lines.{header_of}
 use Rattle.text_lines.proofs.Lines.{IsFirstLine}
-use Rattle.head_fields.specs.Blanks.{is_blank}
-use Rattle.head_fields.specs.Fields.{is_continuation, continuations, fields_from}
+use Rattle.text_lines.specs.Blanks.{is_blank, is_continuation}
+use Rattle.head_fields.specs.Fields.{continuations, fields_from}
 use Rattle.head_fields.proofs.FieldLines.{continuation-begins_none, fields-of_other}
 use Rattle.head_fields.proofs.HeaderLines.{next-continuation, no-continuation, continuations-nothing}
 use Rattle.head_fields.proofs.header.continuations_length.Goals as goal
