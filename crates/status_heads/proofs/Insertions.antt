@@ -7,9 +7,10 @@ use Rattle.std.proofs.lemmas.List.Folds.{concat-append}
 use Rattle.text_lines.specs.Lines.{lines_of, header_of, is_empty_line}
 use Rattle.text_lines.proofs.Lines.{before-step}
 use Rattle.text_lines.proofs.Texts.{is_closed, joined, AreLines, are-lines, lines-joined}
-use Rattle.text_forms.specs.Lines.{is_continuation, is_dropped, is_reserved}
-use Rattle.text_forms.specs.Forms.{drop_reserved, has_empty_line, unreserved_lines}
-use Rattle.text_forms.proofs.ReservedFields.{has_reserved, all-gone, unreserved-lines}
+use Rattle.text_lines.specs.Blanks.{is_continuation}
+use Rattle.text_forms.specs.Lines.{is_dropped, is_reserved}
+use Rattle.text_forms.specs.Forms.{drop_reserved, has_empty_line, unreserved_lines, has_reserved}
+use Rattle.text_forms.proofs.ReservedFields.{all-gone, unreserved-lines}
 use Rattle.status_heads.specs.Insertions.{with_fields}
 
 -- a line with LF at its end and something before its line end

@@ -5,10 +5,10 @@ use Rattle.std.proofs.lemmas.Bool.{cases_Bool, cond-true, cond-false, false≢tr
 use Rattle.text_lines.specs.Lines.{lines_of, line_text, is_empty_line, is_line_end}
 use Rattle.text_lines.proofs.Texts.{is_closed, AreLines, are-lines, lines-joined, flat-is-joined}
 use Rattle.text_forms.specs.Lines.{is_ended, kept_line, ended_line, marked_line, is_reserved, is_dropped}
-use Rattle.text_forms.specs.Forms.{end_last, keep_lines, unreserved_lines, drop_reserved, end_header, headed_form}
+use Rattle.text_forms.specs.Forms.{end_last, keep_lines, unreserved_lines, drop_reserved, end_header, headed_form, has_reserved}
 use Rattle.text_forms.proofs.LineEnds.{closed-before, closed-ended, no-end-behind, ended-closed, ended-open}
 use Rattle.text_forms.proofs.LineForms.{kept-is, ended-is, flat-lines}
-use Rattle.text_forms.proofs.ReservedFields.{has_reserved, none-goes, all-gone, empty-behind, none-made}
+use Rattle.text_forms.proofs.ReservedFields.{none-goes, all-gone, empty-behind, none-made}
 
 -- a line that ends in CRLF
 pub record IsSettled (line : List ℕ) : Type 0 where

@@ -1,5 +1,9 @@
+pub mod Borders
+pub mod Changing
 pub mod Headed
 pub mod Idempotent
 pub mod LineEnds
 pub mod LineForms
 pub mod ReservedFields
+pub mod Stored
+pub mod WholeLines

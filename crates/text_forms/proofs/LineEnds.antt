@@ -1,7 +1,8 @@
 -- Line ends: a line with another end in place of its own.
-use Rattle.std.proofs.Common.{◌≡◌, ℕ, ◌+◌, ◌<◌, true, false, List, [], ◌∷◌, ◌++◌, ◌==◌, ◌&&◌, ⊎_elim, nat_lt, length, length-append, refl, ap, sym, ◌∙◌, arith}
-use Rattle.std.proofs.lemmas.Bool.{cases_Bool, cond-true, cond-false, false≢true}
+use Rattle.std.proofs.Common.{◌≡◌, ℕ, ◌+◌, ◌-◌, ◌<◌, ◌≤◌, true, false, List, [], ◌∷◌, ◌++◌, ◌==◌, ◌&&◌, ⊎_elim, nat_lt, length, length-append, take, refl, ap, sym, ◌∙◌, arith}
+use Rattle.std.proofs.lemmas.Bool.{cases_Bool, cond-true, cond-false, false≢true, eqb-true, and_parts}
 use Rattle.std.proofs.lemmas.Bool.Decides.{nat_tests}
+use Rattle.std.proofs.lemmas.List.{take_at}
 use Rattle.text_lines.specs.Lines.{line_text, line_end_of, is_line_end}
 use Rattle.text_lines.proofs.LineEnds.{text-then-end}
 use Rattle.text_lines.proofs.Texts.{is_closed, is_open, some-byte}
@@ -18,6 +19,70 @@ pub shorter_text : (line : List ℕ) → nat_lt (length (line_text line)) (lengt
 shorter_text line =
     let e : length (line_text line) + length (line_end_of line) ≡ length line = sym (length-append _ _) ∙ ap length (text-then-end line) in
     same_test _ _ _ e
+
+-- line ends of one length are the same
+pub one-end : (a b : List ℕ) → is_line_end a ≡ true → is_line_end b ≡ true → length a ≡ length b → a ≡ b
+one-end [] b is too same = absurd (false≢true is)
+one-end (x ∷ rest) [] is too same = absurd (false≢true too)
+one-end (x ∷ []) (y ∷ []) is too same = ap (λ n. n ∷ []) (eqb-true x 10 is ∙ sym (eqb-true y 10 too))
+one-end (x ∷ []) (y ∷ next ∷ more) is too same = absurd (omega (arith, same))
+one-end (x ∷ next ∷ more) (y ∷ []) is too same = absurd (omega (arith, same))
+one-end (x ∷ next ∷ rest) (y ∷ other ∷ more) is too same =
+    let first = and_parts (x == 13) (is_line_end (next ∷ rest)) is in
+    let second = and_parts (y == 13) (is_line_end (other ∷ more)) too in
+    ap (λ n. n ∷ next ∷ rest) (eqb-true x 13 first.0 ∙ sym (eqb-true y 13 second.0))
+    ∙ ap (λ tail. y ∷ tail) (one-end (next ∷ rest) (other ∷ more) first.1 second.1 (omega (arith, same)))
+
+-- the line end of a line that has one
+end-of-line : (line : List ℕ) → 0 < length (line_end_of line) → is_line_end (line_end_of line) ≡ true
+end-of-line [] some = absurd (omega arith)
+end-of-line (byte ∷ rest) some = ⊎_elim
+    (λ whole. ap is_line_end (cond-true (is_line_end (byte ∷ rest)) (byte ∷ rest) (line_end_of rest) whole) ∙ whole)
+    (λ part.
+    let same = cond-false (is_line_end (byte ∷ rest)) (byte ∷ rest) (line_end_of rest) part in
+    let size = ap length same in
+    ap is_line_end same ∙ end-of-line rest (omega (arith, some, size)))
+    (cases_Bool (is_line_end (byte ∷ rest)))
+
+module _ (line : List ℕ) where
+  sizes : length (line_text line) + length (line_end_of line) ≡ length line
+  sizes = sym (length-append _ _) ∙ ap length (text-then-end line)
+
+  -- a line as long as its text has no line end, and stays
+  pub no_end : (end : List ℕ) → length line ≤ length (line_text line) → with_end end line ≡ line
+  no_end end same =
+      let whole = sizes in
+      cond-false (is_ended line) (line_text line ++ end) line (none_test (length (line_end_of line)) (omega (arith, same, whole)))
+    where
+      none_test : (n : ℕ) → n ≡ 0 → nat_lt 0 n ≡ false
+      none_test n none = grind (arith, nat_tests)
+
+  -- a longer line has one, and another stands behind its text
+  pub other_end : (end : List ℕ) → length (line_text line) < length line → with_end end line ≡ take (length (line_text line)) line ++ end
+  other_end end more =
+      let whole = sizes in
+      let front : take (length (line_text line)) line ≡ line_text line =
+      ap (take (length (line_text line))) (sym (text-then-end line)) ∙ take_at (line_text line) (line_end_of line) (length (line_text line)) refl in
+      cond-true (is_ended line) (line_text line ++ end) line (some_test (length (line_end_of line)) (omega (arith, more, whole)))
+      ∙ ap (λ text. text ++ end) (sym front)
+
+  -- a line end of the same length is its own
+  pub same_end : (end : List ℕ) → is_line_end end ≡ true → length line - length (line_text line) ≡ length end → with_end end line ≡ line
+  same_end end is same =
+      let whole = sizes in
+      let some = some-byte-of end is in
+      let own : length (line_end_of line) ≡ length end = omega (arith, same, whole) in
+      let has : 0 < length (line_end_of line) = omega (arith, own, some) in
+      cond-true (is_ended line) (line_text line ++ end) line (some_test (length (line_end_of line)) has)
+      ∙ ap (λ tail. line_text line ++ tail) (one-end end (line_end_of line) is (end-of-line line has) (sym own))
+      ∙ text-then-end line
+    where
+      some-byte-of : (end : List ℕ) → is_line_end end ≡ true → 0 < length end
+      some-byte-of [] is = absurd (false≢true is)
+      some-byte-of (byte ∷ rest) is = omega arith
+
+  pub text_within : length (line_text line) ≤ length line
+  text_within = let whole = sizes in omega (arith, whole)
 
 -- a line end with a byte before it
 end-behind : (byte : ℕ) (rest : List ℕ) → 0 < length rest → is_line_end (byte ∷ rest) ≡ ((byte == 13) && is_line_end rest)
@@ -49,13 +114,13 @@ closed-before byte (next ∷ rest) other closed = cond-false (byte == 10) false 
 pub open-before : (byte : ℕ) (rest : List ℕ) → (byte == 10) ≡ false → is_open rest ≡ true → is_open (byte ∷ rest) ≡ true
 open-before byte rest other is = cond-false (byte == 10) false (is_open rest) other ∙ is
 
-open-first : (byte : ℕ) (rest : List ℕ) → is_open (byte ∷ rest) ≡ true → (byte == 10) ≡ false
+pub open-first : (byte : ℕ) (rest : List ℕ) → is_open (byte ∷ rest) ≡ true → (byte == 10) ≡ false
 open-first byte rest is = ⊎_elim
     (λ feed. absurd (false≢true (sym (cond-true (byte == 10) false (is_open rest) feed) ∙ is)))
     (λ other. other)
     (cases_Bool (byte == 10))
 
-open-behind : (byte : ℕ) (rest : List ℕ) → is_open (byte ∷ rest) ≡ true → is_open rest ≡ true
+pub open-behind : (byte : ℕ) (rest : List ℕ) → is_open (byte ∷ rest) ≡ true → is_open rest ≡ true
 open-behind byte rest is = sym (cond-false (byte == 10) false (is_open rest) (open-first byte rest is)) ∙ is
 
 -- a line without LF has no line end
@@ -168,14 +233,16 @@ module _ (end : List ℕ) (is : is_line_end end ≡ true) where
     pub with-end-open : (line : List ℕ) → is_open line ≡ true → with_end end line ≡ line
     with-end-open line open_line = cond-false (is_ended line) (line_text line ++ end) line (open-not-ended line open_line)
 
-    pub with-end-twice : (line : List ℕ) → is_closed line ≡ true → with_end end (with_end end line) ≡ with_end end line
-    with-end-twice line closed =
+    -- the end that was there before counts for nothing
+    pub with-end-over : (other line : List ℕ) → is_closed line ≡ true → with_end other (with_end end line) ≡ with_end other line
+    with-end-over other line closed =
         let new = line_text line ++ end in
         let once : with_end end line ≡ new = cond-true (is_ended line) new line (closed-ended line closed) in
         let again : is_closed new ≡ true = sym (ap is_closed once) ∙ with-end-closed line closed in
-        ap (with_end end) once
-        ∙ cond-true (is_ended new) (line_text new ++ end) new (closed-ended new again)
-        ∙ ap (λ text. text ++ end) (text-same line closed) ∙ sym once
+        ap (with_end other) once
+        ∙ cond-true (is_ended new) (line_text new ++ other) new (closed-ended new again)
+        ∙ ap (λ text. text ++ other) (text-same line closed)
+        ∙ sym (cond-true (is_ended line) (line_text line ++ other) line (closed-ended line closed))
 
 pub ended-closed : (line : List ℕ) → is_closed line ≡ true → ended_line line ≡ line
 ended-closed line closed = cond-true (is_ended line) line (line ++ 10 ∷ []) (closed-ended line closed)

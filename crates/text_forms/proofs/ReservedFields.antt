@@ -5,8 +5,9 @@ use Rattle.std.proofs.lemmas.Bool.{cases_Bool, cond-true, cond-false, false≢tr
 use Rattle.text_lines.specs.Lines.{lines_of, is_empty_line}
 use Rattle.text_lines.proofs.Lines.{no_lines}
 use Rattle.text_lines.proofs.Texts.{joined, AreLines, are-lines, lines-joined}
-use Rattle.text_forms.specs.Lines.{is_dropped, is_reserved, is_continuation}
-use Rattle.text_forms.specs.Forms.{unreserved_lines, drop_reserved}
+use Rattle.text_lines.specs.Blanks.{is_continuation}
+use Rattle.text_forms.specs.Lines.{is_dropped, is_reserved}
+use Rattle.text_forms.specs.Forms.{has_reserved, unreserved_lines, drop_reserved}
 
 -- from an empty line on all stays
 pub body-stays : (above : Bool) (text line : List ℕ) (behind : List (List ℕ)) → lines_of text ≡ line ∷ behind → is_empty_line line ≡ true → concat (unreserved_lines above (lines_of text)) ≡ text
@@ -19,11 +20,6 @@ body-stays above text line behind lines empty =
 pub none-left : (above : Bool) (text : List ℕ) → length text ≡ 0 → concat (unreserved_lines above (lines_of text)) ≡ text
 none-left above [] none = ap (λ l. concat (unreserved_lines above l)) (no_lines [] refl)
 none-left above (byte ∷ rest) none = absurd (omega arith)
-
--- a header with a line that begins a reserved field
-abbrev pub has_reserved : List (List ℕ) → Bool
-has_reserved [] = false
-has_reserved (line ∷ lines) = cond (is_empty_line line) false (is_reserved line || has_reserved lines)
 
 or_parts : (a b : Bool) → (a || b) ≡ false → (a ≡ false) × (b ≡ false)
 or_parts true b h = absurd (false≢true (sym h))
@@ -46,6 +42,10 @@ none-goes (line ∷ lines) none = ⊎_elim
   where
     stays-below : (line : List ℕ) → is_reserved line ≡ false → is_dropped false line ≡ false
     stays-below line none = elim (is_continuation line) as (λ is. cond is false (is_reserved line) ≡ false) [ true ↦ refl | false ↦ none ]
+
+-- a text without a reserved field stays
+pub none_dropped : (text : List ℕ) → has_reserved (lines_of text) ≡ false → drop_reserved text ≡ text
+none_dropped text none = ap concat (none-goes (lines_of text) none) ∙ joined text
 
 -- what is left has no reserved field
 pub all-gone : (above : Bool) (lines : List (List ℕ)) → has_reserved (unreserved_lines above lines) ≡ false

@@ -1,8 +1,8 @@
 -- The text forms, on the lines of a text.
-use Rattle.std.specs.Prelude.{ℕ, Bool, true, false, List, [], ◌∷◌, ◌++◌, if◌then◌else◌, flat_map}
+use Rattle.std.specs.Prelude.{ℕ, Bool, true, false, List, [], ◌∷◌, ◌++◌, ◌==◌, ◌||◌, if◌then◌else◌, flat_map}
 use Rattle.std.specs.List.{concat, list_any}
 use Rattle.text_lines.specs.Lines.{lines_of, is_empty_line}
-use Rattle.text_forms.specs.Lines.{kept_line, stored_line, ended_line, quoted_from, quoted_mmdf, is_dropped}
+use Rattle.text_forms.specs.Lines.{kept_line, stored_line, ended_line, quoted_from, quoted_mmdf, is_dropped, is_reserved}
 
 -- CRLF at the end of each line
 abbrev pub keep_lines : List ℕ → List ℕ
@@ -11,6 +11,12 @@ keep_lines text = flat_map kept_line (lines_of text)
 -- LF at the end of each line
 abbrev pub store_lf : List ℕ → List ℕ
 store_lf text = flat_map stored_line (lines_of text)
+
+-- a text of whole lines: it has no byte, or LF as its last one
+abbrev pub is_whole : List ℕ → Bool
+is_whole [] = true
+is_whole (byte ∷ []) = byte == 10
+is_whole (byte ∷ next ∷ rest) = is_whole (next ∷ rest)
 
 -- LF at the end of a last line without a line end
 abbrev pub end_last : List ℕ → List ℕ
@@ -22,6 +28,11 @@ unreserved_lines above [] = []
 unreserved_lines above (line ∷ lines) =
     if is_empty_line line then line ∷ lines
     else (if is_dropped above line then unreserved_lines true lines else line ∷ unreserved_lines false lines)
+
+-- lines with a header line that begins a reserved field
+abbrev pub has_reserved : List (List ℕ) → Bool
+has_reserved [] = false
+has_reserved (line ∷ lines) = if is_empty_line line then false else (is_reserved line || has_reserved lines)
 
 -- the text without the reserved fields of its header
 abbrev pub drop_reserved : List ℕ → List ℕ

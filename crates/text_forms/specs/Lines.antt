@@ -1,6 +1,7 @@
 -- One line of a text: what the text forms make of it.
 use Rattle.std.specs.Prelude.{ℕ, Bool, false, List, [], ◌∷◌, ◌++◌, ◌==◌, ◌&&◌, ◌||◌, nat_lt, if◌then◌else◌, length, take, drop, codes, bytes_eq}
 use Rattle.std.specs.Str.{str_eq_ignore_ascii_case}
+use Rattle.text_lines.specs.Blanks.{is_blank, is_continuation}
 use Rattle.text_lines.specs.Lines.{line_text, line_end_of}
 use Rattle.mail_fields.specs.DelimiterLine.{is_delimiter_line}
 
@@ -39,15 +40,6 @@ is_mmdf_line line = bytes_eq (line_text line) (1 ∷ 1 ∷ 1 ∷ 1 ∷ [])
 -- the line, with a space before it where it is such a border
 abbrev pub quoted_mmdf : List ℕ → List ℕ
 quoted_mmdf = marked_line is_mmdf_line 32
-
--- a space or a tab
-abbrev pub is_blank : ℕ → Bool
-is_blank byte = byte == 32 || byte == 9
-
--- a header line that goes on with the field above it begins with a blank (RFC 5322, section 2.2.3)
-abbrev pub is_continuation : List ℕ → Bool
-is_continuation [] = false
-is_continuation (byte ∷ rest) = is_blank byte
 
 -- blanks, perhaps none, then a colon
 abbrev pub begins_colon : List ℕ → Bool

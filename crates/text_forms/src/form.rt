@@ -2,7 +2,11 @@
 ghost use Rattle.std.specs.Prelude.{◌≡◌, IfOk};
 ghost use Rattle.text_forms.specs.Forms.{headed_form, lines_form, unix_form, mmdf_form};
 
-use crate::{drop_reserved, end_header, end_last, keep_lines, quote_from, quote_mmdf};
+use crate::header::end_own_header;
+use crate::keep_lines;
+use crate::line_end::keep_whole_lines;
+use crate::quote::{quote_own_from, quote_own_mmdf};
+use crate::reserved::drop_own_reserved;
 use std::alloc::{AllocError, Global};
 
 /// The text as a driver keeps it that changes nothing but line ends.
@@ -14,14 +18,13 @@ pub fn lines_form(alloc: Global, text: &[u8]) -> Result<Vec<u8>, AllocError>
     keep_lines(alloc, text)
 }
 
-// All steps of the unix and the mmdf form but the quoting.
+// All steps of the unix and the mmdf form but the quoting. Each lets go of the text before it, or gives that back.
 fn headed_form(alloc: Global, text: &[u8]) -> Result<Vec<u8>, AllocError>
     ensures { IfOk result (λ v. v.items ≡ headed_form text.now) }
 {
-    let ended = end_last(alloc, text)?;
-    let kept = keep_lines(alloc, ended.as_slice())?;
-    let dropped = drop_reserved(alloc, kept.as_slice())?;
-    end_header(alloc, dropped.as_slice())
+    let kept = keep_whole_lines(alloc, text)?;
+    let dropped = drop_own_reserved(alloc, kept)?;
+    end_own_header(dropped)
 }
 
 /// The text as a unix file keeps it.
@@ -31,7 +34,7 @@ pub fn unix_form(alloc: Global, text: &[u8]) -> Result<Vec<u8>, AllocError>
     ensures twice { IfOk result (λ v. unix_form v.items ≡ v.items) }
 {
     let headed = headed_form(alloc, text)?;
-    quote_from(alloc, headed.as_slice())
+    quote_own_from(alloc, headed)
 }
 
 /// The text as an mmdf file keeps it.
@@ -41,5 +44,5 @@ pub fn mmdf_form(alloc: Global, text: &[u8]) -> Result<Vec<u8>, AllocError>
     ensures twice { IfOk result (λ v. mmdf_form v.items ≡ v.items) }
 {
     let headed = headed_form(alloc, text)?;
-    quote_mmdf(alloc, headed.as_slice())
+    quote_own_mmdf(alloc, headed)
 }

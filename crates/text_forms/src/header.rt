@@ -27,8 +27,15 @@ fn has_empty_line(text: &[u8]) -> bool
 pub fn end_header(alloc: Global, text: &[u8]) -> Result<Vec<u8>, AllocError>
     ensures { IfOk result (λ v. v.items ≡ end_header text.now) }
 {
-    let mut out = Vec::from_slice(alloc, text)?;
-    if !has_empty_line(text) {
+    end_own_header(Vec::from_slice(alloc, text)?)
+}
+
+// The same of a text that is let go.
+pub(crate) fn end_own_header(text: Vec<u8>) -> Result<Vec<u8>, AllocError>
+    ensures { IfOk result (λ v. v.items ≡ end_header text.items) }
+{
+    let mut out = text;
+    if !has_empty_line(out.as_slice()) {
         out.extend_from_slice(b"\r\n")?;
     }
     Ok(out)

@@ -1,26 +1,12 @@
 // Fields that a driver writes itself, and so takes from no message.
 ghost use Rattle.std.specs.Prelude.{◌≡◌, ◌++◌, IfOk};
-ghost use Rattle.text_forms.specs.Lines.{is_blank, is_continuation, begins_colon, is_field_named, is_reserved, is_dropped};
-ghost use Rattle.text_forms.specs.Forms.{drop_reserved};
+ghost use Rattle.text_lines.specs.Blanks.{is_blank, is_continuation};
+ghost use Rattle.text_forms.specs.Lines.{begins_colon, is_field_named, is_reserved, is_dropped};
+ghost use Rattle.text_lines.specs.Lines.{lines_of};
+ghost use Rattle.text_forms.specs.Forms.{drop_reserved, has_reserved};
 
 use std::alloc::{AllocError, Global};
-use text_lines::{is_empty_line, line_length};
-
-fn is_blank(byte: u8) -> bool
-    ensures { result ≡ is_blank byte }
-{
-    byte == b' ' || byte == b'\t'
-}
-
-// Whether a header line goes on with the field above it.
-fn is_continuation(line: &[u8]) -> bool
-    ensures { result ≡ is_continuation line.now }
-{
-    match line {
-        [first, ..] => is_blank(*first),
-        [] => false,
-    }
-}
+use text_lines::{is_blank, is_continuation, is_empty_line, line_length};
 
 // Whether a colon comes first, or behind blanks alone.
 fn begins_colon(bytes: &[u8]) -> bool
@@ -76,7 +62,7 @@ fn is_dropped(above: bool, line: &[u8]) -> bool
 pub fn drop_reserved(alloc: Global, text: &[u8]) -> Result<Vec<u8>, AllocError>
     ensures { IfOk result (λ v. v.items ≡ drop_reserved text.now) }
 {
-    let mut out = Vec::new(alloc);
+    let mut out = Vec::with_capacity(alloc, text.len())?;
     let mut rest = text;
     let mut dropping = false;
     while !rest.is_empty() {
@@ -92,4 +78,35 @@ pub fn drop_reserved(alloc: Global, text: &[u8]) -> Result<Vec<u8>, AllocError>
     }
     out.extend_from_slice(rest)?;
     Ok(out)
+}
+
+// Whether a header line begins a reserved field.
+#[tactic(auto, using(text_lines::proofs::Lines::no_lines))]
+fn has_reserved(text: &[u8]) -> bool
+    ensures { result ≡ has_reserved (lines_of text.now) }
+{
+    let mut rest = text;
+    while !rest.is_empty() {
+        let (line, behind) = rest.split_at(line_length(rest));
+        if is_empty_line(line) {
+            return false;
+        }
+        if is_reserved(line) {
+            return true;
+        }
+        rest = behind;
+    }
+    false
+}
+
+// The text without the reserved fields of its header, of a text that is let go.
+#[tactic(auto, using(crate::proofs::ReservedFields::none_dropped))]
+pub(crate) fn drop_own_reserved(alloc: Global, text: Vec<u8>) -> Result<Vec<u8>, AllocError>
+    ensures { IfOk result (λ v. v.items ≡ drop_reserved text.items) }
+{
+    if has_reserved(text.as_slice()) {
+        drop_reserved(alloc, text.as_slice())
+    } else {
+        Ok(text)
+    }
 }
