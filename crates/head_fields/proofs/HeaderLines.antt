@@ -1,5 +1,5 @@
 -- The header of a text, a line at a time.
-use Rattle.std.proofs.Common.{◌≡◌, ℕ, zero, suc, ◌+◌, ◌<◌, ◌≤◌, ⊎_elim, true, false, cond, List, [], ◌∷◌, ◌++◌, ◌==◌, length, take, drop, drop-cons, get_or, refl, ap, subst, sym, ◌∙◌, arith}
+use Rattle.std.proofs.Common.{◌≡◌, ℕ, zero, suc, ◌+◌, ◌<◌, ⊎_elim, true, false, cond, List, [], ◌∷◌, ◌++◌, ◌==◌, length, take, drop, drop-cons, get_or, refl, ap, subst, sym, ◌∙◌, arith}
 use Rattle.std.specs.List.{before_first, concat, position_or_len}
 use Rattle.std.proofs.lemmas.Bool.{false≢true, cond-true, cond-false}
 use Rattle.std.proofs.lemmas.List.{length-append, length-drop, append-nil, drop-drop, take-append-drop}
@@ -7,6 +7,7 @@ use Rattle.std.proofs.lemmas.List.Folds.{concat-append}
 use Rattle.std.proofs.lemmas.List.Sums.{take_while-cons}
 use Rattle.text_lines.specs.Lines.{lines_of, line_len, lines_from, header_of, is_empty_line}
 use Rattle.text_lines.proofs.Lines.{IsFirstLine, before-step, no_lines}
+use Rattle.text_lines.proofs.Texts.{joined}
 use Rattle.head_fields.specs.Header.{body_start_of, BeginsHeader}
 use Rattle.text_lines.specs.Blanks.{is_blank, is_continuation}
 use Rattle.head_fields.specs.Fields.{continuations}
@@ -107,26 +108,9 @@ no-continuation text at inside other =
 pub continuations-nothing : (text : List ℕ) → length text ≡ 0 → continuations (header_of text) ≡ []
 continuations-nothing text none = ap continuations (header-none text none)
 
-first-some : (byte : ℕ) (rest : List ℕ) → 0 < line_len (byte ∷ rest)
-unfolding line_len
-first-some byte rest =
-    elim (byte == 10) as (λ feed. 0 < cond feed 1 (suc (line_len rest))) [ true ↦ omega arith | false ↦ omega arith ]
-
-lines-join_from : (fuel : ℕ) (text : List ℕ) → length text ≤ fuel → concat (lines_from fuel text) ≡ text
-unfolding lines_from
-lines-join_from zero [] fits = refl
-lines-join_from zero (byte ∷ rest) fits = absurd (omega arith)
-lines-join_from (suc fuel) [] fits = refl
-lines-join_from (suc fuel) (byte ∷ rest) fits =
-    let text = byte ∷ rest in
-    let width = line_len text in
-    let some = first-some byte rest in
-    let left = length-drop width text in
-    ap (λ later. take width text ++ later) (lines-join_from fuel (drop width text) (omega arith)) ∙ take-append-drop width text
-
 -- a text begins with the lines of its header
 pub header-front : (text : List ℕ) → (after : List ℕ) × (text ≡ concat (header_of text) ++ after)
 header-front text =
     let count = position_or_len is_empty_line (lines_of text) in
     let after = drop count (lines_of text) in
-    (concat after, sym (lines-join_from (length text) text (omega arith)) ∙ ap concat (sym (take-append-drop count (lines_of text))) ∙ concat-append (header_of text) after)
+    (concat after, sym (joined text) ∙ ap concat (sym (take-append-drop count (lines_of text))) ∙ concat-append (header_of text) after)

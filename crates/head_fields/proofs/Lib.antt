@@ -3,5 +3,7 @@ pub mod Colons
 pub mod Examples
 pub mod FieldLines
 pub mod FieldPlaces
+pub mod HeaderAlone
 pub mod HeaderLines
 pub mod Readings
+pub mod Searches

@@ -1,5 +1,5 @@
 -- The fields of a header: their names and values, and where these stand (RFC 5322, section 2.2).
-use Rattle.std.specs.Prelude.{ℕ, Bool, false, not, List, [], ◌∷◌, ◌++◌, ◌+◌, ◌==◌, ◌<◌, ◌≤◌, ◌&&◌, if◌then◌else◌, nat_le, length, slice_range}
+use Rattle.std.specs.Prelude.{ℕ, Bool, not, List, [], ◌∷◌, ◌++◌, ◌+◌, ◌==◌, ◌<◌, ◌≤◌, ◌&&◌, if◌then◌else◌, nat_le, length, slice_range}
 use Rattle.std.specs.List.{before_first, after_first, position_or_len, take_while, list_any, list_all, concat}
 use Rattle.text_lines.specs.Blanks.{is_continuation}
 use Rattle.text_lines.specs.Lines.{header_of, line_text}

@@ -7,6 +7,10 @@ use Rattle.text_lines.specs.Lines.{lines_of, header_of}
 abbrev pub body_start_of : List ℕ → ℕ
 body_start_of text = length (concat (take (length (header_of text) + 1) (lines_of text)))
 
+-- the header of a text alone, with the empty line that ends it
+abbrev pub header_alone : List ℕ → List ℕ
+header_alone text = take (body_start_of text) text
+
 -- the line is the first of the text and of its header, and the header goes on behind it
 pub record BeginsHeader (text line : List ℕ) : Type 0 where
   pub some : 0 < length line

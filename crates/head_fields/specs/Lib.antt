@@ -2,3 +2,4 @@ pub mod Blanks
 pub mod Fields
 pub mod Folding
 pub mod Header
+pub mod Searches

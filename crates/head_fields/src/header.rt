@@ -13,7 +13,8 @@ use text_lines::{is_blank, is_empty_line, line_length, line_text};
 
 /// The offset of a text's body, behind the first empty line; the text's length where it has none.
 pub fn body_start(text: &[u8]) -> usize
-    ensures { result ≡ body_start_of text.now }
+    ensures value { result ≡ body_start_of text.now }
+    ensures within { result ≤ length text.now }
 {
     let mut at = 0;
     while let Some(line) = header_line(&text[at..]) {

@@ -5,6 +5,7 @@ use Rattle.std.proofs.lemmas.Bool.{cases_Bool, cases_eq, cond-true, cond-false, 
 use Rattle.std.proofs.lemmas.List.{append-nil, length-append}
 use Rattle.std.proofs.Math.Seq.{get_or-append_right}
 use Rattle.text_lines.specs.Lines.{lines_of, line_text, is_line_end}
+use Rattle.text_lines.proofs.OpenLines.{closed-text as line-open}
 use Rattle.text_lines.proofs.Texts.{is_closed, is_open, lines-joined, closed-first, some-byte}
 use Rattle.text_lines.proofs.Lines.{no_lines}
 use Rattle.mime_parts.specs.Marks.{is_dashed, marks_from, ends_line}
@@ -54,22 +55,6 @@ closed-text (a ∷ b ∷ rest) more closed some =
     (cases_Bool (a == 10)) in
     cond-false (is_line_end (a ∷ b ∷ (rest ++ more))) [] (a ∷ line_text (b ∷ (rest ++ more))) (closed-inside (a ∷ b ∷ rest) more closed some)
     ∙ ap (λ t. a ∷ t) (closed-text (b ∷ rest) more behind some)
-
--- the text of a closed line has no LF
-pub text-open : (line : List ℕ) → is_closed line ≡ true → is_open (line_text line) ≡ true
-text-open [] closed = refl
-text-open (a ∷ rest) closed = ⊎_elim
-    (λ whole. ap is_open (cond-true (is_line_end (a ∷ rest)) [] (a ∷ line_text rest) whole))
-    (λ part.
-    ap is_open (cond-false (is_line_end (a ∷ rest)) [] (a ∷ line_text rest) part) ∙ ⊎_elim
-    (λ feed. absurd (false≢true (sym part ∙ alone a rest feed closed)))
-    (λ other. cond-false (a == 10) false (is_open (line_text rest)) other ∙ text-open rest (sym (cond-false (a == 10) _ _ other) ∙ closed))
-    (cases_Bool (a == 10)))
-    (cases_Bool (is_line_end (a ∷ rest)))
-  where
-    alone : (a : ℕ) (rest : List ℕ) → (a == 10) ≡ true → is_closed (a ∷ rest) ≡ true → is_line_end (a ∷ rest) ≡ true
-    alone a [] feed closed = feed
-    alone a (b ∷ rest) feed closed = absurd (false≢true (sym (cond-true (a == 10) false (is_closed (b ∷ rest)) feed) ∙ closed))
 
 -- bytes without LF don't end in it, and a closed line does
 open-byte : (bytes : List ℕ) (k : ℕ) → is_open bytes ≡ true → k < length bytes → get_or bytes k 0 ≢ 10
@@ -145,7 +130,7 @@ cut-lines [] closed = no_lines [] refl
 cut-lines (line ∷ []) closed = ap (λ t. lines_of (line_text t)) (append-nil line) ∙ ⊎_elim
     (λ empty. no_lines (line_text line) empty ∙ sym (cond-true (length (line_text line) == 0) [] (line_text line ∷ []) (eq-eqb _ 0 empty)))
     (λ some.
-    let alone : lines_of (line_text line ++ []) ≡ line_text line ∷ [] = lines-joined (line_text line ∷ []) (inr (some-text (line_text line) some, text-open line closed.0, refl)) in
+    let alone : lines_of (line_text line ++ []) ≡ line_text line ∷ [] = lines-joined (line_text line ∷ []) (inr (some-text (line_text line) some, line-open line closed.0, refl)) in
     ap lines_of (sym (append-nil (line_text line))) ∙ alone ∙ sym (cond-false (length (line_text line) == 0) [] (line_text line ∷ []) (ne_eqb _ 0 some)))
     (cases_eq (length (line_text line)) 0)
 cut-lines (line ∷ next ∷ lines) closed =
@@ -156,7 +141,7 @@ pub cut-count : (line : List ℕ) (lines : List (List ℕ)) → AreClosed (line 
 cut-count line [] closed = (let e : cond (ends_line (line_text (line ++ []))) 1 0 + length (cut_lines (line ∷ [])) ≡ cond (ends_line (line_text line)) 1 0 + length (cut_lines (line ∷ [])) = (λ i. cond (ends_line (line_text (append-nil line i))) 1 0 + length (cut_lines (line ∷ []))) in e) ∙ ⊎_elim
     (λ empty. (λ i. cond (ends_line (no-text (line_text line) empty i)) 1 0 + length (cond-true (length (line_text line) == 0) [] (line_text line ∷ []) (eq-eqb _ 0 empty) i)))
     (λ some.
-    (λ i. cond (ends-open (line_text line) (text-open line closed.0) (some-text (line_text line) some) i) 1 0 + length (cond-false (length (line_text line) == 0) [] (line_text line ∷ []) (ne_eqb _ 0 some) i)))
+    (λ i. cond (ends-open (line_text line) (line-open line closed.0) (some-text (line_text line) some) i) 1 0 + length (cond-false (length (line_text line) == 0) [] (line_text line ∷ []) (ne_eqb _ 0 some) i)))
     (cases_eq (length (line_text line)) 0)
 cut-count line (next ∷ lines) closed =
     let ends : ends_line (line_text (concat (line ∷ next ∷ lines))) ≡ ends_line (line_text (concat (next ∷ lines))) =

@@ -3,9 +3,11 @@ use Rattle.std.proofs.Common.{◌≡◌, ℕ, ◌+◌, ◌-◌, ◌<◌, ◌≤�
 use Rattle.std.proofs.lemmas.Bool.{cases_Bool, cond-true, cond-false, false≢true, eqb-true, and_parts}
 use Rattle.std.proofs.lemmas.Bool.Decides.{nat_tests}
 use Rattle.std.proofs.lemmas.List.{take_at}
-use Rattle.text_lines.specs.Lines.{line_text, line_end_of, is_line_end}
+use Rattle.text_lines.specs.Lines.{line_text, line_end_of, is_line_end, is_open}
 use Rattle.text_lines.proofs.LineEnds.{text-then-end}
-use Rattle.text_lines.proofs.Texts.{is_closed, is_open, some-byte}
+use Rattle.text_lines.proofs.Texts.{is_closed, some-byte}
+use Rattle.text_lines.proofs.OpenLines.{closed-other, closed-behind, closed-text}
+pub use Rattle.text_lines.proofs.OpenLines.{closed-before, open-before, open-first, open-behind, open-then-closed}
 use Rattle.text_forms.specs.Lines.{is_ended, with_end, ended_line}
 
 same_test : (a b c : ℕ) → a + b ≡ c → nat_lt a c ≡ nat_lt 0 b
@@ -94,35 +96,6 @@ pub no-end-behind : (byte : ℕ) (rest : List ℕ) → (byte == 10) ≡ false �
 no-end-behind byte [] feed return = feed
 no-end-behind byte (next ∷ rest) feed return = ap (λ t. t && is_line_end (next ∷ rest)) return
 
--- the first byte of a closed line that is no line end
-closed-other : (byte : ℕ) (rest : List ℕ) → is_closed (byte ∷ rest) ≡ true → is_line_end (byte ∷ rest) ≡ false → (byte == 10) ≡ false
-closed-other byte [] closed more = more
-closed-other byte (next ∷ rest) closed more = ⊎_elim
-    (λ feed. absurd (false≢true (sym (cond-true (byte == 10) false (is_closed (next ∷ rest)) feed) ∙ closed)))
-    (λ other. other)
-    (cases_Bool (byte == 10))
-
-closed-behind : (byte : ℕ) (rest : List ℕ) → (byte == 10) ≡ false → is_closed (byte ∷ rest) ≡ true → is_closed rest ≡ true
-closed-behind byte [] other closed = absurd (false≢true (sym (cond-false (byte == 10) true false other) ∙ closed))
-closed-behind byte (next ∷ rest) other closed = sym (cond-false (byte == 10) false (is_closed (next ∷ rest)) other) ∙ closed
-
--- a byte other than LF before a closed line
-pub closed-before : (byte : ℕ) (rest : List ℕ) → (byte == 10) ≡ false → is_closed rest ≡ true → is_closed (byte ∷ rest) ≡ true
-closed-before byte [] other closed = absurd (false≢true closed)
-closed-before byte (next ∷ rest) other closed = cond-false (byte == 10) false (is_closed (next ∷ rest)) other ∙ closed
-
-pub open-before : (byte : ℕ) (rest : List ℕ) → (byte == 10) ≡ false → is_open rest ≡ true → is_open (byte ∷ rest) ≡ true
-open-before byte rest other is = cond-false (byte == 10) false (is_open rest) other ∙ is
-
-pub open-first : (byte : ℕ) (rest : List ℕ) → is_open (byte ∷ rest) ≡ true → (byte == 10) ≡ false
-open-first byte rest is = ⊎_elim
-    (λ feed. absurd (false≢true (sym (cond-true (byte == 10) false (is_open rest) feed) ∙ is)))
-    (λ other. other)
-    (cases_Bool (byte == 10))
-
-pub open-behind : (byte : ℕ) (rest : List ℕ) → is_open (byte ∷ rest) ≡ true → is_open rest ≡ true
-open-behind byte rest is = sym (cond-false (byte == 10) false (is_open rest) (open-first byte rest is)) ∙ is
-
 -- a line without LF has no line end
 open-no-end : (line : List ℕ) → is_open line ≡ true → is_line_end line ≡ false
 open-no-end [] is = refl
@@ -155,24 +128,6 @@ closed-end (byte ∷ rest) closed = ⊎_elim
 
 pub closed-ended : (line : List ℕ) → is_closed line ≡ true → is_ended line ≡ true
 closed-ended line closed = some_test _ (closed-end line closed)
-
--- what stands before the line end has no LF
-closed-text : (line : List ℕ) → is_closed line ≡ true → is_open (line_text line) ≡ true
-closed-text [] closed = refl
-closed-text (byte ∷ rest) closed = ⊎_elim
-    (λ whole. ap is_open (cond-true (is_line_end (byte ∷ rest)) [] (byte ∷ line_text rest) whole))
-    (λ part.
-    let other = closed-other byte rest closed part in
-    let inner = closed-text rest (closed-behind byte rest other closed) in
-    ap is_open (cond-false (is_line_end (byte ∷ rest)) [] (byte ∷ line_text rest) part)
-    ∙ open-before byte (line_text rest) other inner)
-    (cases_Bool (is_line_end (byte ∷ rest)))
-
--- bytes without LF and a closed line are a closed line
-pub open-then-closed : (front line : List ℕ) → is_open front ≡ true → is_closed line ≡ true → is_closed (front ++ line) ≡ true
-open-then-closed [] line is closed = closed
-open-then-closed (byte ∷ front) line is closed =
-    closed-before byte (front ++ line) (open-first byte front is) (open-then-closed front line (open-behind byte front is) closed)
 
 module _ (end : List ℕ) (is : is_line_end end ≡ true) where
   end-text : line_text end ≡ []

@@ -1,4 +1,5 @@
 pub mod Examples
 pub mod LineEnds
 pub mod Lines
+pub mod OpenLines
 pub mod Texts

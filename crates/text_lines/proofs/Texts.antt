@@ -6,6 +6,7 @@ use Rattle.std.proofs.lemmas.List.{take-append-le, drop-append-le, drop_all}
 use Rattle.bstr.proofs.lemmas.LineLemmas.{lines-nil, lines-step, line_len-bounds}
 use Rattle.bstr.specs.Text.{line_len}
 use Rattle.text_lines.specs.Lines.{lines_of}
+pub use Rattle.text_lines.specs.Lines.{is_open}
 
 abbrev is_null : List ℕ → Bool
 is_null [] = true
@@ -15,11 +16,6 @@ is_null (byte ∷ rest) = false
 abbrev pub is_closed : List ℕ → Bool
 is_closed [] = false
 is_closed (byte ∷ rest) = cond (byte == 10) (is_null rest) (is_closed rest)
-
--- no LF
-abbrev pub is_open : List ℕ → Bool
-is_open [] = true
-is_open (byte ∷ rest) = cond (byte == 10) false (is_open rest)
 
 -- the lines of some text: each is closed, but the last may be open, and has a byte then
 abbrev pub AreLines : List (List ℕ) → Type 0

@@ -1,9 +1,14 @@
 -- The lines of a text, and what ends them (RFC 5322, section 2.1; a line feed alone ends a line too).
-use Rattle.std.specs.Prelude.{ℕ, Bool, false, List, [], ◌∷◌, ◌==◌, ◌&&◌, if◌then◌else◌}
+use Rattle.std.specs.Prelude.{ℕ, Bool, true, false, List, [], ◌∷◌, ◌==◌, ◌&&◌, if◌then◌else◌}
 use Rattle.std.specs.List.{before_first}
 -- the lines of a text, each up to and with its line feed; the last may have none
 pub use Rattle.bstr.specs.Text.{lines_of}
 unfoldable pub use Rattle.bstr.specs.Text.{line_len, lines_from}
+
+-- bytes without LF
+abbrev pub is_open : List ℕ → Bool
+is_open [] = true
+is_open (byte ∷ rest) = if byte == 10 then false else is_open rest
 
 -- a run of CR bytes, perhaps none, then one LF, and nothing else
 abbrev pub is_line_end : List ℕ → Bool

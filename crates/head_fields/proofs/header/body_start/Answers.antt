@@ -16,8 +16,8 @@ loop-line-preserved c =
     let body = body-behind_line (drop at text) line begins in
     record { within = omega (arith, begins.within); body = omega (arith, c.loop-line.invariant.body) }
 
-pub returns : goal.returns
-returns c =
+pub returns-clause-value : goal.returns-clause-value
+returns-clause-value c =
     let at = c.loop-line.at in
     let text = c.args.text.now in
     let rest = take (length text - at) (drop at text) in
