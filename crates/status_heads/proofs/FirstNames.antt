@@ -42,6 +42,9 @@ with-may names (word ∷ words) may = ⊎_elim
     (λ old. subst (λ test. May (with_names (cond test (names ++ word ∷ []) names) words)) (sym old) (with-may names words may))
     (cases_Bool (is_new names word))
 
+pub with_names_may : (names words : List (List ℕ)) → length names ≤ 30 → are_distinct names ≡ true → (length (with_names names words) ≤ 30) × (are_distinct (with_names names words) ≡ true)
+with_names_may names words few distinct = with-may names words (few, distinct)
+
 -- the names that stand when no word is left
 pub first-may : (value rest : List ℕ) (names : List (List ℕ)) → with_names names (words_of rest) ≡ with_names [] (words_of value) → words_of rest ≡ [] → May names
 first-may value rest names same none =

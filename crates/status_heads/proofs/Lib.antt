@@ -2,6 +2,7 @@ pub mod Examples
 pub mod FirstNames
 pub mod Insertions
 pub mod MadeLines
+pub mod Marks
 pub mod NamedFields
 pub mod PseudoBack
 pub mod PutBack

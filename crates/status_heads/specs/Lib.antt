@@ -4,5 +4,6 @@ pub mod HeadTexts
 pub mod Heads
 pub mod Insertions
 pub mod Names
+pub mod Numbered
 pub mod Numbers
 pub mod PseudoTexts

@@ -44,7 +44,7 @@ pub fn read_heads(alloc: Global, text: &[u8]) -> Result<Heads, AllocError>
     })
 }
 
-fn read_flags(status: &[u8], more: &[u8]) -> Flags
+pub(crate) fn read_flags(status: &[u8], more: &[u8]) -> Flags
     ensures { result ≡ flags_of status.now more.now }
 {
     Flags {

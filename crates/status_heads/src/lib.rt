@@ -9,10 +9,12 @@ mod head_text;
 mod heads;
 mod names;
 mod number;
+mod numbered;
 mod pseudo;
 mod value;
 
 pub use base::{Base, read_base};
 pub use head_text::put_heads;
 pub use heads::{Heads, read_heads};
+pub use numbered::{NumberedHeads, read_numbered_heads};
 pub use pseudo::put_pseudo;
