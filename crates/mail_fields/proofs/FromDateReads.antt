@@ -69,7 +69,8 @@ from-reads stamp can zone =
     name.1 month.1 (length-day_text date.day) name.0 month.0 (day-reads date.day can.day) can.second can.year can.valid
     ∙ ap (λ z. Some (record { day = stamp.day; second = stamp.second; zone_minutes = z })) (sym zone)
 
-from-width : (stamp : StampParts) → CanStand stamp → length (from_date_text stamp.day stamp.second) ≡ 24
+-- a from date has 24 bytes
+pub from-width : (stamp : StampParts) → CanStand stamp → length (from_date_text stamp.day stamp.second) ≡ 24
 unfolding from_date_text
 from-width stamp can =
     let date = civil_of stamp.day in

@@ -155,6 +155,8 @@ pub fn put_from_date(buf: &mut [u8], place: usize, stamp: Stamp)
     requires utc { stamp.zone_minutes ≡ pos 0 }
     ensures text { buf.new ≡ written_at buf.old place (from_date_text stamp.day stamp.second) }
     ensures read { from_date_of (take 24 (drop place buf.new)) ≡ Some (parts_of stamp) }
+    ensures width { length (from_date_text stamp.day stamp.second) ≡ 24 }
+    ensures date { from_date_of (from_date_text stamp.day stamp.second) ≡ Some (parts_of stamp) }
 {
     let date = civil_date(stamp);
     let named_day = named_day_bytes(stamp.day, date);

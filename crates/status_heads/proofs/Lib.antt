@@ -1,3 +1,4 @@
+pub mod DelimiterBack
 pub mod Examples
 pub mod FirstNames
 pub mod Insertions
@@ -5,6 +6,7 @@ pub mod MadeLines
 pub mod Marks
 pub mod NamedFields
 pub mod PseudoBack
+pub mod PseudoLine
 pub mod PutBack
 pub mod WordSplits
 pub mod WrittenValues

@@ -29,14 +29,14 @@ module _ (byte : ℕ) (rest : List ℕ) (clean : is_clean (byte ∷ rest) ≡ tr
   pub rest-clean : is_clean rest ≡ true
   rest-clean = (and_parts (not (byte == 10) && not (byte == 13)) (is_clean rest) clean).1
 
-text-of : (value : List ℕ) → is_clean value ≡ true → line_text (value ++ 10 ∷ []) ≡ value
+pub text-of : (value : List ℕ) → is_clean value ≡ true → line_text (value ++ 10 ∷ []) ≡ value
 text-of [] clean = refl
 text-of (byte ∷ rest) clean =
     let first = first-clean byte rest clean in
     cond-false (is_line_end (byte ∷ (rest ++ 10 ∷ []))) [] (byte ∷ line_text (rest ++ 10 ∷ [])) (no-end-behind byte (rest ++ 10 ∷ []) first.0 first.1)
     ∙ ap (λ tail. byte ∷ tail) (text-of rest (rest-clean byte rest clean))
 
-closed-of : (value : List ℕ) → is_clean value ≡ true → is_closed (value ++ 10 ∷ []) ≡ true
+pub closed-of : (value : List ℕ) → is_clean value ≡ true → is_closed (value ++ 10 ∷ []) ≡ true
 closed-of [] clean = refl
 closed-of (byte ∷ rest) clean = closed-before byte (rest ++ 10 ∷ []) (first-clean byte rest clean).0 (closed-of rest (rest-clean byte rest clean))
 

@@ -155,7 +155,7 @@ words-again (first ∷ names) all =
 pub names-again : (names : List (List ℕ)) → list_all is_keyword names ≡ true → names_of (names_text names) ≡ names
 names-again names all = ap (filter is_keyword) (words-again names all) ∙ all-kept is_keyword names (λ name is. is) all
 
-clean-both : (one other : List ℕ) → is_clean one ≡ true → is_clean other ≡ true → is_clean (one ++ other) ≡ true
+pub clean-both : (one other : List ℕ) → is_clean one ≡ true → is_clean other ≡ true → is_clean (one ++ other) ≡ true
 clean-both one other a b = list_all-append (λ byte. not (byte == 10) && not (byte == 13)) one other ∙ both_true a b
 
 spaced-clean : (names : List (List ℕ)) → list_all is_keyword names ≡ true → is_clean (spaced_names names) ≡ true

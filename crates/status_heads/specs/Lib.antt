@@ -1,4 +1,5 @@
 pub mod Bases
+pub mod Delimiters
 pub mod Fields
 pub mod HeadTexts
 pub mod Heads

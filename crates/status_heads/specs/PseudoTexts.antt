@@ -19,6 +19,10 @@ pseudo_message base =
     ++ base_text base
     ++ codes "\nStatus: RO\n\nThis text is part of the internal format of your mail folder.\n"
 
+-- its delimiter line, with the first second of 1970
+abbrev pub pseudo_line : List ℕ
+pseudo_line = codes "From MAILER-DAEMON Thu Jan  1 00:00:00 1970\n"
+
 -- the message behind its delimiter line
 abbrev pub pseudo_text : Base → List ℕ
-pseudo_text base = codes "From MAILER-DAEMON Thu Jan  1 00:00:00 1970\n" ++ pseudo_message base
+pseudo_text base = pseudo_line ++ pseudo_message base

@@ -5,6 +5,7 @@
 #![tactic(auto)]
 
 mod base;
+mod delimiter;
 mod head_text;
 mod heads;
 mod names;
@@ -14,6 +15,7 @@ mod pseudo;
 mod value;
 
 pub use base::{Base, read_base};
+pub use delimiter::put_delimiter;
 pub use head_text::put_heads;
 pub use heads::{Heads, read_heads};
 pub use numbered::{NumberedHeads, read_numbered_heads};

@@ -1,12 +1,14 @@
 // The message that holds the base of a mailbox.
-ghost use Rattle.std.specs.Prelude.{◌≡◌, ◌≢◌, ◌<◌, ◌≤◌, ◌%◌, ◌^◌, ◌++◌, Some, true, codes, length, IfOk, OnOk};
+ghost use Rattle.std.specs.Prelude.{◌≡◌, ◌≢◌, ◌<◌, ◌≤◌, ◌%◌, ◌^◌, ◌∷◌, ◌++◌, pos, Some, true, codes, length, IfOk, OnOk};
 ghost use Rattle.std.specs.Char.{digit_char};
 ghost use Rattle.std.specs.List.{list_all};
+ghost use Rattle.text_lines.specs.Lines.{lines_of};
+ghost use Rattle.mail_fields.specs.DelimiterLine.{delimiter_stamp};
 ghost use Rattle.mail_fields.specs.Names.{are_distinct};
 ghost use Rattle.status_heads.specs.Bases.{base_of};
 ghost use Rattle.mail_fields.specs.Keyword.{is_keyword};
 ghost use Rattle.status_heads.specs.Numbers.{greatest_uid};
-ghost use Rattle.status_heads.specs.PseudoTexts.{base_text, pseudo_message, pseudo_text, ten_digits};
+ghost use Rattle.status_heads.specs.PseudoTexts.{base_text, pseudo_line, pseudo_message, pseudo_text, ten_digits};
 
 use crate::base::Base;
 use crate::head_text::put_spaced;
@@ -30,7 +32,9 @@ pub fn put_pseudo(alloc: Global, base: &Base) -> Result<Vec<u8>, AllocError>
     requires few { length base.now.words ≤ 30 }
     requires distinct { are_distinct base.now.words ≡ true }
     ensures text { IfOk result (λ v. v.items ≡ pseudo_text base.now) }
-    // behind its delimiter line it is read again
+    // its first line is a delimiter line, and behind that it is read again
+    ensures first { IfOk result (λ v. lines_of v.items ≡ pseudo_line ∷ lines_of (pseudo_message base.now)) }
+    ensures stamp { IfOk result (λ _. delimiter_stamp pseudo_line ≡ Some (record { day = pos 0; second = 0; zone_minutes = pos 0 })) }
     ensures read { IfOk result (λ _. base_of (pseudo_message base.now) (codes "X-IMAP") ≡ Some base.now) }
 {
     let mut text = Vec::from_slice(alloc, DELIMITER)?;
