@@ -1,8 +1,8 @@
 -- A search for the end of a header.
-use Rattle.std.proofs.Common.{◌≡◌, ◌∙◌, ℕ, suc, ◌+◌, ◌-◌, ◌<◌, ◌≢◌, ⊎_elim, inr, true, false, List, [], ◌∷◌, ◌++◌, ◌==◌, length, take, drop, get_or, refl, ap, subst, sym, slice_range, arith}
+use Rattle.std.proofs.Common.{◌≡◌, ◌∙◌, ℕ, suc, ◌+◌, ◌-◌, ◌<◌, ◌≤◌, ◌≢◌, ⊎_elim, inr, true, false, List, [], ◌∷◌, ◌++◌, ◌==◌, length, take, drop, get_or, refl, ap, subst, sym, slice_range, arith}
 use Rattle.std.specs.List.{before_first, concat}
 use Rattle.std.proofs.lemmas.Bool.{false≢true, cases_Bool, cond-true, cond-false, eqb-true}
-use Rattle.std.proofs.Math.Seq.{take-length}
+use Rattle.std.proofs.Math.Seq.{take-add, take-length}
 use Rattle.std.proofs.lemmas.List.{take-append-le, length-append, append_assoc, append-nil, take-append-drop, take_at, drop_more, length-take-le, get_or-take}
 use Rattle.text_lines.specs.Lines.{lines_of, header_of, is_empty_line}
 use Rattle.text_lines.proofs.Lines.{before-step}
@@ -235,3 +235,14 @@ front-alone front more at is = ap (λ n. take n (front ++ more)) (is.body more) 
 -- a text over which the search goes on is its header
 pub open-alone : (text : List ℕ) → body_start_of text ≡ length text → take (body_start_of text) text ≡ text
 open-alone text is = ap (λ n. take n text) is ∙ take-length text
+
+-- what is known of a front of a text is known of a longer one
+pub searched-further : (text : List ℕ) (end next : ℕ) (search : HeaderSearch) → end ≤ next → IsSearched (take end text) search → IsSearched (take next text) search
+searched-further text end next search later is =
+    let sum : next ≡ end + (next - end) = omega (arith, later) in
+    let front : take next text ≡ take end text ++ take (next - end) (drop end text) = ap (λ n. take n text) sum ∙ take-add end (next - end) text in
+    subst (λ t. IsSearched t search) (sym front) (searched-more (take end text) (take (next - end) (drop end text)) search is)
+
+-- what a front tells of the body is so in the text
+pub front-tells : (text : List ℕ) (end at : ℕ) → BodyAt (take end text) at → at ≡ body_start_of text
+front-tells text end at is = sym (is.body (drop end text)) ∙ ap body_start_of (take-append-drop end text)
