@@ -223,8 +223,14 @@ names_in_has image dir name = (has, is_had)
     is_had : HasNoSlash name × (stands (node_at image (child dir name)) ≡ Some tt) → Contains (names_in image dir) name
     is_had it = Contains-from_any (λ x y same. (bytes_eq-Decides x y).0 (sym (is_eq-slice_cmp x y) ∙ same)) name (names_in image dir) (sym (found (names_in image dir)) ∙ ap is_some (name_stands image dir name (is_plain name it.0) ∙ it.1))
 
--- a directory whose list of names is empty can be removed
-pub lists_none : (names : List (List ℕ)) (dir : List ℕ) (h : History) → length names ≡ 0 → Now h (λ w. is_directory (seen w.disk) dir ≡ true)
-    → Now h (λ w. IsPermutation names (names_in (seen w.disk) dir)) → Now h (λ w. IsEmptyDirectory (seen w.disk) dir)
-lists_none names dir [] none there listed = tt
-lists_none names dir (w ∷ past) none there listed = record { is_there = there; empty = nil_from_length (names_in (seen w.disk) dir) (length_permutation names (names_in (seen w.disk) dir) listed ∙ none) }
+-- a directory that was listed, and has no names, can be removed
+pub lists_none : {A : Type 0} (text : A → List ℕ) (names : List A) (dir : List ℕ) (old new : History) → new ≡ old → Now old (λ w. is_directory (seen w.disk) dir ≡ true)
+    → Now old (λ w. IsPermutation (map text names) (names_in (seen w.disk) dir)) → length names ≡ 0 → Now new (λ w. IsEmptyDirectory (seen w.disk) dir)
+lists_none text names dir old new same there listed none = subst (λ h. Now h (λ w. IsEmptyDirectory (seen w.disk) dir)) (sym same) (at old there listed)
+  where
+    at : (h : History) → Now h (λ w. is_directory (seen w.disk) dir ≡ true) → Now h (λ w. IsPermutation (map text names) (names_in (seen w.disk) dir)) → Now h (λ w. IsEmptyDirectory (seen w.disk) dir)
+    at [] there listed = tt
+    at (w ∷ past) there listed = record {
+      is_there = there;
+      empty = nil_from_length (names_in (seen w.disk) dir) (length_permutation (map text names) (names_in (seen w.disk) dir) listed ∙ ap (λ l. length (map text l)) (nil_from_length names none));
+    }
