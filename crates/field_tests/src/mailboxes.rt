@@ -19,6 +19,7 @@ fn messages(alloc: Global, rows: &[(u32, &[u8])]) -> Result<Vec<Record>, AllocEr
             stamp: EPOCH,
             flags: Flags::none(),
             words: 1,
+            number: 1,
         })?;
     }
     Ok(records)
@@ -62,10 +63,21 @@ fn a_mailbox_has_rising_uids_and_distinct_names(rt: HostRuntime) -> Result<(), F
         let made = Mailbox::new(
             rt.alloc(),
             validity,
+            1,
             last,
             words.as_slice(),
             records.as_slice(),
         )?;
+        // no message has a greater modification number than the mailbox
+        let smaller = Mailbox::new(
+            rt.alloc(),
+            validity,
+            0,
+            last,
+            words.as_slice(),
+            records.as_slice(),
+        )?;
+        assert!(rt; smaller.is_some() == (is && records.is_empty()));
         match &made {
             Some(mailbox) => {
                 assert!(rt; is);
@@ -93,10 +105,10 @@ fn a_mailbox_has_at_most_30_names(rt: HostRuntime) -> Result<(), Fail> {
         }
     }
     assert_eq!(rt; words.len(), 30);
-    assert!(rt; Mailbox::new(rt.alloc(), 1, 0, words.as_slice(), &[])?.is_some());
+    assert!(rt; Mailbox::new(rt.alloc(), 1, 0, 0, words.as_slice(), &[])?.is_some());
     if let Some(word) = Keyword::read(rt.alloc(), b"5")? {
         words.push(word)?;
     }
-    assert!(rt; Mailbox::new(rt.alloc(), 1, 0, words.as_slice(), &[])?.is_none());
+    assert!(rt; Mailbox::new(rt.alloc(), 1, 0, 0, words.as_slice(), &[])?.is_none());
     Ok(())
 }

@@ -91,6 +91,7 @@ fn each_driver_declares_its_row(rt: HostRuntime) {
             flags,
             date,
             text,
+            numbers: driver == Driver::Mix,
         };
         assert!(rt; keeps_of(driver) == row);
     }
@@ -155,6 +156,7 @@ fn sent(alloc: Global) -> Result<Record, AllocError> {
         stamp: LOCAL,
         flags: FLAGS,
         words: 0x6000_0001,
+        number: 5,
     })
 }
 
@@ -169,6 +171,7 @@ fn a_message_loses_what_its_driver_does_not_declare(rt: HostRuntime) -> Result<(
         assert!(rt; taken.flags == FLAGS);
         assert_eq!(rt; taken.words, words);
         assert_eq!(rt; taken.uid, 7);
+        assert_eq!(rt; taken.number, if driver == Driver::Mix { 5 } else { 0 });
         let limited = kept(rt.alloc(), keeps, &message)?;
         assert_eq!(rt; limited.text.as_slice(), text);
         assert!(rt; limited.flags == flags);

@@ -18,6 +18,7 @@ fn message(alloc: Global, uid: u32) -> Result<Record, AllocError> {
         stamp: EPOCH,
         flags: Flags::none(),
         words: 0,
+        number: 0,
     })
 }
 
@@ -41,6 +42,7 @@ fn contents(
     }
     Ok(StoreContents {
         validity,
+        number: 7,
         last,
         words: Keywords::of(words),
         records: messages(alloc, uids)?,
@@ -53,7 +55,7 @@ fn has_uids(records: &[Record], uids: &[u32]) -> bool {
 }
 
 // UIDVALIDITY, highest UID and UIDs as the files have them; the same of the mailbox that is opened with 1001.
-pub(crate) const OPENED: [(Option<u32>, u32, &[u32], u32, u32, &[u32]); 14] = [
+const OPENED: [(Option<u32>, u32, &[u32], u32, u32, &[u32]); 14] = [
     // no UIDVALIDITY
     (None, 0, &[0, 0], 1001, 2, &[1, 2]),
     (None, 9, &[4, 7], 1001, 2, &[1, 2]),
@@ -90,6 +92,7 @@ fn uids_last_where_they_rise(rt: HostRuntime) -> Result<(), Fail> {
         assert!(rt; contents.records.as_slice().len() < 10);
         let mailbox = opened(rt.alloc(), contents, 1001)?;
         assert_eq!(rt; mailbox.validity, new_validity);
+        assert_eq!(rt; mailbox.number, 7);
         assert_eq!(rt; mailbox.last, new_last);
         assert!(rt; has_uids(mailbox.records.as_slice(), new_uids));
         assert!(rt; mailbox.words.as_slice().len() == 1);

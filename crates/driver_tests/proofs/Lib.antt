@@ -1,2 +1,0 @@
-pub mod EitherCalls
-pub mod ListRuns

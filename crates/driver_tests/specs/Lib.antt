@@ -1,2 +1,0 @@
-pub mod BrokenStore
-pub mod EitherStore

@@ -1,6 +1,0 @@
-pub mod Laws
-pub mod ListFile
-pub mod ListReading
-pub mod ListTexts
-pub mod ListView
-pub mod Within
