@@ -9,7 +9,7 @@ use Rattle.file_model.specs.Kept.{Keeps, Replaces, ChangesTo, MayMake, IsHome, I
 use Rattle.file_model.specs.Histories.{History, Now, GoesOn, Ran, Ended}
 use Rattle.file_model.proofs.Names.{get-insert_same, get-insert_other, get-remove_other, cases_path, all_may_stand, all_durable}
 use Rattle.file_model.proofs.Kept.{keeps_refl, keeps_trans, keeps_make, may_make_file, may_make_none, keeps_edit, keeps_sync, keeps_sync_dir, replaces_rename, durable_rename, durable_gone, durable_all, same_number}
-use Rattle.file_model.proofs.Runs.{ran_call, ran_then, ok_call, now_both, ended_call}
+use Rattle.file_model.proofs.Runs.{ran_call, ran_then, ok_call, now_all, now_both, ended_call}
 
 -- ---- On disks
 
@@ -172,11 +172,7 @@ module _ (result : Result (Unit {0}) Failed) (old new : History) where
   ran_sync path b at now on = ran_call (λ d. IsSound d × IsOwn path b d) (Keeps at) (sync path) (λ d p. keeps_synced path d b p.0 p.1 at) (λ d e p. failed_keeps _ _ d e (keeps_synced path d b p.0 p.1 at)) result old new now on
 
   pub ran_sync_dir : (dir : List ℕ) (at : List ℕ → Type 0) → GoesOn (sync_dir dir) result old new → Ran (Keeps at) old new
-  ran_sync_dir dir at on = ran_call (λ d. Unit {0}) (Keeps at) (sync_dir dir) (λ d p. keeps_sync_dir dir d at) (λ d e p. failed_keeps _ _ d e (keeps_sync_dir dir d at)) result old new (any old) on
-    where
-      any : (h : History) → Now h (λ w. Unit {0})
-      any [] = tt
-      any (w ∷ past) = tt
+  ran_sync_dir dir at on = ran_call (λ d. Unit {0}) (Keeps at) (sync_dir dir) (λ d p. keeps_sync_dir dir d at) (λ d e p. failed_keeps _ _ d e (keeps_sync_dir dir d at)) result old new (now_all (λ w. Unit {0}) (λ w. tt) old) on
 
   pub ok_make : (path : List ℕ) → Now old (λ w. IsSound w.disk) → GoesOn (make path) result old new → OnOk result (Now new (λ w. IsOwn path [] w.disk))
   ok_make path now on = ok_call IsSound (IsOwn path []) (make path) (own_made path) result old new now on

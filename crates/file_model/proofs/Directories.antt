@@ -12,7 +12,7 @@ use Rattle.file_model.specs.Histories.{History, Now, GoesOn, Ran, Ended}
 use Rattle.file_model.proofs.Names.{get-insert_same, get-insert_other, get-remove_same, get-remove_other, all_may_stand}
 use Rattle.file_model.proofs.Kept.{one_left}
 use Rattle.file_model.proofs.Calls.{failed_keeps, failed_changes}
-use Rattle.file_model.proofs.Runs.{ran_call, ok_call, ended_call}
+use Rattle.file_model.proofs.Runs.{now_all, ran_call, ok_call, ended_call}
 
 -- ---- On disks
 
@@ -96,24 +96,23 @@ durable_made_dir path disk image left =
 -- ---- On histories
 
 module _ (result : Result (Unit {0}) Failed) (old new : History) (path : List ℕ) where
-  any : (h : History) → Now h (λ w. Unit {0})
-  any [] = tt
-  any (w ∷ past) = tt
+  any : Now old (λ w. Unit {0})
+  any = now_all (λ w. Unit {0}) (λ w. tt) old
 
   pub ran_remove : GoesOn (remove_at path) result old new → Ran (Keeps (λ q. q ≢ path)) old new
-  ran_remove on = ran_call (λ d. Unit {0}) (Keeps (λ q. q ≢ path)) (remove_at path) (λ d p. keeps_remove path d) (λ d e p. failed_keeps _ _ d e (keeps_remove path d)) result old new (any old) on
+  ran_remove on = ran_call (λ d. Unit {0}) (Keeps (λ q. q ≢ path)) (remove_at path) (λ d p. keeps_remove path d) (λ d e p. failed_keeps _ _ d e (keeps_remove path d)) result old new any on
 
   pub ran_changes_remove : GoesOn (remove_at path) result old new → Ran (ChangesTo path nothing) old new
-  ran_changes_remove on = ran_call (λ d. Unit {0}) (ChangesTo path nothing) (remove_at path) (λ d p. changes_remove path d) (λ d e p. failed_changes path nothing _ d e (changes_remove path d)) result old new (any old) on
+  ran_changes_remove on = ran_call (λ d. Unit {0}) (ChangesTo path nothing) (remove_at path) (λ d p. changes_remove path d) (λ d e p. failed_changes path nothing _ d e (changes_remove path d)) result old new any on
 
   pub ran_make_dir : GoesOn (make_dir path) result old new → Ran (ChangesTo path directory) old new
-  ran_make_dir on = ran_call (λ d. Unit {0}) (ChangesTo path directory) (make_dir path) (λ d p. changes_make_dir path d) (λ d e p. failed_changes path directory _ d e (changes_make_dir path d)) result old new (any old) on
+  ran_make_dir on = ran_call (λ d. Unit {0}) (ChangesTo path directory) (make_dir path) (λ d p. changes_make_dir path d) (λ d e p. failed_changes path directory _ d e (changes_make_dir path d)) result old new any on
 
   pub sees_ok_make_dir : GoesOn (make_dir path) result old new → OnOk result (Ended (Sees (λ q. q ≢ path)) old new)
-  sees_ok_make_dir on = ended_call (λ d. Unit {0}) (Sees (λ q. q ≢ path)) (make_dir path) (λ d p. sees_make_dir path d) result old new (any old) on
+  sees_ok_make_dir on = ended_call (λ d. Unit {0}) (Sees (λ q. q ≢ path)) (make_dir path) (λ d p. sees_make_dir path d) result old new any on
 
   pub ok_made_dir : GoesOn (make_dir path) result old new → OnOk result (Now new (λ w. WasMadeDirectory path w.disk))
-  ok_made_dir on = ok_call (λ d. Unit {0}) (WasMadeDirectory path) (make_dir path) (λ d p. record { before = d; is_after = refl }) result old new (any old) on
+  ok_made_dir on = ok_call (λ d. Unit {0}) (WasMadeDirectory path) (make_dir path) (λ d p. record { before = d; is_after = refl }) result old new any on
 
   -- its directory is synced
   pub ok_durable_made_dir : Now old (λ w. WasMadeDirectory path w.disk) → GoesOn (sync_dir (parent path)) result old new
@@ -123,13 +122,13 @@ module _ (result : Result (Unit {0}) Failed) (old new : History) (path : List �
       (record { none_pending = none_left (parent path) (made_directory path) p.before.pending (here path) }, record { each = durable_made_dir path p.before })) result old new now on
 
   pub sees_ok_remove : GoesOn (remove_at path) result old new → OnOk result (Ended (Sees (λ q. q ≢ path)) old new)
-  sees_ok_remove on = ended_call (λ d. Unit {0}) (Sees (λ q. q ≢ path)) (remove_at path) (λ d p. sees_remove path d) result old new (any old) on
+  sees_ok_remove on = ended_call (λ d. Unit {0}) (Sees (λ q. q ≢ path)) (remove_at path) (λ d p. sees_remove path d) result old new any on
 
   pub ok_removed : GoesOn (remove_at path) result old new → OnOk result (Now new (λ w. WasRemoved path w.disk))
-  ok_removed on = ok_call (λ d. Unit {0}) (WasRemoved path) (remove_at path) (λ d p. record { before = d; is_after = refl }) result old new (any old) on
+  ok_removed on = ok_call (λ d. Unit {0}) (WasRemoved path) (remove_at path) (λ d p. record { before = d; is_after = refl }) result old new any on
 
   pub ok_made : GoesOn (make path) result old new → OnOk result (Now new (λ w. WasMade path w.disk))
-  ok_made on = ok_call (λ d. Unit {0}) (WasMade path) (make path) (λ d p. record { before = d; is_after = refl }) result old new (any old) on
+  ok_made on = ok_call (λ d. Unit {0}) (WasMade path) (make path) (λ d p. record { before = d; is_after = refl }) result old new any on
 
   -- the directory is synced
   pub ok_gone_removed : Now old (λ w. WasRemoved path w.disk) → GoesOn (sync_dir (parent path)) result old new → OnOk result (Now new (λ w. IsGone path w.disk))

@@ -13,7 +13,7 @@ use Rattle.file_model.specs.Histories.{History, Now, GoesOn, Ran, Ended}
 use Rattle.file_model.proofs.Names.{all_may_stand}
 use Rattle.file_model.proofs.Moved.{Apart, get_moved}
 use Rattle.file_model.proofs.Sound.{directory_entry, free_apart}
-use Rattle.file_model.proofs.Runs.{ran_call, ok_call, ended_call}
+use Rattle.file_model.proofs.Runs.{now_all, ran_call, ok_call, ended_call}
 
 -- ---- On disks
 
@@ -83,11 +83,7 @@ module _ (result : Result (Unit {0}) Failed) (old new : History) (from to : List
   sees_ok_move_directory now on = ended_call (IsMovable from to) (SeesMoved from to) (rename from to) (λ d p. sees_moved from to d p.0 p.1) result old new now on
 
   pub ok_renamed : GoesOn (rename from to) result old new → OnOk result (Now new (λ w. WasRenamed from to w.disk))
-  ok_renamed on = ok_call (λ d. Unit {0}) (WasRenamed from to) (rename from to) (λ d p. record { before = d; is_after = refl }) result old new (any old) on
-    where
-      any : (h : History) → Now h (λ w. Unit {0})
-      any [] = tt
-      any (w ∷ past) = tt
+  ok_renamed on = ok_call (λ d. Unit {0}) (WasRenamed from to) (rename from to) (λ d p. record { before = d; is_after = refl }) result old new (now_all (λ w. Unit {0}) (λ w. tt) old) on
 
   -- once its new directory is synced nothing is pending
   pub ok_durable_renamed : Now old (λ w. WasRenamed from to w.disk) → GoesOn (sync_dir (parent to)) result old new → OnOk result (Now new (λ w. NonePending w.disk))

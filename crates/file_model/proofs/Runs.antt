@@ -18,6 +18,11 @@ pub now_weaker : (P Q : World → Type 0) → ((w : World) → P w → Q w) → 
 now_weaker P Q weaker [] now = now
 now_weaker P Q weaker (w ∷ past) now = weaker w now
 
+-- what holds of every world
+pub now_all : (P : World → Type 0) → ((w : World) → P w) → (history : History) → Now history P
+now_all P holds [] = tt
+now_all P holds (w ∷ past) = holds w
+
 pub now_both : (P Q : World → Type 0) (history : History) → Now history P → Now history Q → Now history (λ w. P w × Q w)
 now_both P Q [] p q = tt
 now_both P Q (w ∷ past) p q = (p, q)
@@ -67,6 +72,11 @@ ran_then {R = R} {S = S} {T = T} same first then (start ∷ past) mid new one tw
 -- two runs that change files alone, whatever they change
 pub files_then : (old mid new : History) → Ran (λ start instant. Unit {0}) old mid → Ran (λ start instant. Unit {0}) mid new → Ran (λ start instant. Unit {0}) old new
 files_then old mid new one two = ran_then (λ a. tt) (λ a b r. r) (λ a b c r s. s) old mid new one two
+
+-- what follows from what a call that answered Ok gives
+pub ok_map : {T E : Type 0} {P Q : Type 0} (result : Result T E) → (P → Q) → OnOk result P → OnOk result Q
+ok_map (Ok value) on holds = on holds
+ok_map (Err e) on holds = tt
 
 -- a call is a run of one instant, or where it failed of two or none
 pub ran_call : (P : Disk → Type 0) (R : Disk → Disk → Type 0) (call : Call)

@@ -1,16 +1,12 @@
 -- Calls on the files hear and say nothing.
-use Rattle.std.proofs.Common.{ℕ, List, [], ◌∷◌, Result}
+use Rattle.std.proofs.Common.{ℕ, List, Result}
 use Rattle.file_model.specs.declared.files.Failed.{Failed}
 use Rattle.file_model.specs.Disk.{Call, make, cut, write_at, sync, rename, sync_dir}
-use Rattle.file_model.specs.Histories.{History, Now, GoesOn, Ran}
-use Rattle.file_model.proofs.Runs.{ran_call, ran_then}
-
-anywhere : (h : History) → Now h (λ w. Unit {0})
-anywhere [] = tt
-anywhere (w ∷ past) = tt
+use Rattle.file_model.specs.Histories.{History, GoesOn, Ran}
+use Rattle.file_model.proofs.Runs.{now_all, ran_call}
 
 on_files : (call : Call) (result : Result (Unit {0}) Failed) (old new : History) → GoesOn call result old new → Ran (λ start instant. Unit {0}) old new
-on_files call result old new on = ran_call (λ d. Unit {0}) (λ start instant. Unit {0}) call (λ d p. tt) (λ d e p failed. tt) result old new (anywhere old) on
+on_files call result old new on = ran_call (λ d. Unit {0}) (λ start instant. Unit {0}) call (λ d p. tt) (λ d e p failed. tt) result old new (now_all (λ w. Unit {0}) (λ w. tt) old) on
 
 module _ (result : Result (Unit {0}) Failed) (old new : History) where
   pub files_make : (path : List ℕ) → GoesOn (make path) result old new → Ran (λ start instant. Unit {0}) old new
@@ -30,6 +26,3 @@ module _ (result : Result (Unit {0}) Failed) (old new : History) where
 
   pub files_sync_dir : (path : List ℕ) → GoesOn (sync_dir path) result old new → Ran (λ start instant. Unit {0}) old new
   files_sync_dir path on = on_files (sync_dir path) result old new on
-
-pub then_files : (old mid new : History) → Ran (λ start instant. Unit {0}) old mid → Ran (λ start instant. Unit {0}) mid new → Ran (λ start instant. Unit {0}) old new
-then_files old mid new one two = ran_then (λ a. tt) (λ a b p. tt) (λ a b c p q. tt) old mid new one two

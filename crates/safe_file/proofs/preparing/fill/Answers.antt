@@ -3,11 +3,11 @@ use Rattle.std.proofs.lemmas.Result.{on_ok_weaker}
 use Rattle.file_model.specs.Disk.{written}
 use Rattle.file_model.specs.Kept.{IsWritten}
 use Rattle.file_model.specs.Histories.{Now}
-use Rattle.file_model.proofs.Runs.{now_both, now_weaker, ended_then}
+use Rattle.file_model.proofs.Runs.{now_both, now_weaker, ended_then, files_then}
 use Rattle.file_model.proofs.Calls.{ok_write, ran_write, ran_sync, ran_keeps, sees_trans}
 use Rattle.file_model.proofs.InPlace.{owns, shows_file, ok_write_shows, ok_sync_written, sees_write, sees_sync}
 use Rattle.safe_file.proofs.Beside.{written_empty}
-use Rattle.safe_file.proofs.OnFiles.{files_write, files_sync, then_files}
+use Rattle.safe_file.proofs.OnFiles.{files_write, files_sync}
 use Rattle.file_model.proofs.FileCalls.{directories_write, directories_sync, then_keeps}
 use Rattle.safe_file.proofs.preparing.fill.Goals as goal
 
@@ -43,7 +43,7 @@ pub returns-in_err-write_at-clause-files : goal.returns-in_err-write_at-clause-f
 returns-in_err-write_at-clause-files g c = files_write _ _ _ c.args.temporary.now 0 c.args.bytes.now c.write_at.ensures.goes_on
 
 pub returns-clause-files : goal.returns-clause-files
-returns-clause-files g c = then_files _ _ _ (files_write _ _ _ c.args.temporary.now 0 c.args.bytes.now c.write_at.ensures.goes_on) (files_sync _ _ _ _ c.sync.ensures.goes_on)
+returns-clause-files g c = files_then _ _ _ (files_write _ _ _ c.args.temporary.now 0 c.args.bytes.now c.write_at.ensures.goes_on) (files_sync _ _ _ _ c.sync.ensures.goes_on)
 
 pub returns-in_err-write_at-clause-directories : goal.returns-in_err-write_at-clause-directories
 returns-in_err-write_at-clause-directories g c = directories_write _ _ _ c.args.temporary.now 0 c.args.bytes.now (g.met.F.Files.sound c.args.files.now) c.write_at.ensures.goes_on

@@ -8,8 +8,8 @@ use Rattle.file_model.specs.Histories.{Now, Ran}
 use Rattle.file_model.proofs.Inside.{in_directory}
 use Rattle.file_model.proofs.Calls.{ran_keeps}
 use Rattle.file_model.proofs.Reserved.{reserved_temporary}
+use Rattle.file_model.proofs.Runs.{files_then}
 use Rattle.safe_file.proofs.Beside.{parent_temporary, temporary_below, ok_here}
-use Rattle.safe_file.proofs.OnFiles.{then_files}
 use Rattle.file_model.proofs.FileCalls.{then_keeps}
 use Rattle.safe_file.proofs.preparing.prepare.Goals as goal
 
@@ -57,10 +57,10 @@ clear-requires-clause-below g c =
     ap is_top is ∙ temporary_below c.args.path.now (in_directory c.args.path.now c.requires.inside) c.requires.inside
 
 pub returns-then-is_err-2-clause-files : goal.returns-then-is_err-2-clause-files
-returns-then-is_err-2-clause-files g c = then_files _ _ _ c.clear.ensures.files c.fill.ensures.files
+returns-then-is_err-2-clause-files g c = files_then _ _ _ c.clear.ensures.files c.fill.ensures.files
 
 pub returns-clause-files : goal.returns-clause-files
-returns-clause-files g c = then_files _ _ _ c.clear.ensures.files c.fill.ensures.files
+returns-clause-files g c = files_then _ _ _ c.clear.ensures.files c.fill.ensures.files
 
 pub returns-then-is_err-2-clause-directories : goal.returns-then-is_err-2-clause-directories
 returns-then-is_err-2-clause-directories g c = then_keeps _ _ _ c.clear.ensures.directories c.fill.ensures.directories

@@ -7,11 +7,11 @@ use Rattle.file_model.specs.Paths.{parent}
 use Rattle.file_model.proofs.Paths.{parent_apart}
 use Rattle.file_model.proofs.Inside.{in_directory}
 use Rattle.file_model.proofs.Calls.{ran_move, ok_move, ok_move_beside, ok_settle_move, ran_sync_dir, ran_durable, rename_at, sync_dir_at, ok_move_any, ok_gone_move, ok_all_durable, sees_ok_move, sees_ok_sync_dir, sees_trans}
-use Rattle.file_model.proofs.Runs.{ended_then}
+use Rattle.file_model.proofs.Runs.{ended_then, files_then}
 use Rattle.std.proofs.lemmas.Result.{on_ok_weaker}
 use Rattle.file_model.specs.Paths.{temporary_of}
 use Rattle.safe_file.proofs.Beside.{directory_apart, temporary_apart}
-use Rattle.safe_file.proofs.OnFiles.{files_rename, files_sync_dir, then_files}
+use Rattle.safe_file.proofs.OnFiles.{files_rename, files_sync_dir}
 use Rattle.std.specs.Prelude.{IsErr}
 use Rattle.file_model.proofs.FileCalls.{directories_move, directories_sync_dir, then_keeps}
 use Rattle.file_model.proofs.Runs.{now_both}
@@ -68,7 +68,7 @@ pub returns-in_err-rename-clause-files : goal.returns-in_err-rename-clause-files
 returns-in_err-rename-clause-files g c = files_rename _ _ _ _ _ c.rename.ensures.goes_on
 
 pub returns-clause-files : goal.returns-clause-files
-returns-clause-files g c = then_files _ _ _ (files_rename _ _ _ _ _ c.rename.ensures.goes_on) (files_sync_dir _ _ _ _ c.sync_dir.ensures.goes_on)
+returns-clause-files g c = files_then _ _ _ (files_rename _ _ _ _ _ c.rename.ensures.goes_on) (files_sync_dir _ _ _ _ c.sync_dir.ensures.goes_on)
 
 pub returns-in_err-rename-clause-directories : goal.returns-in_err-rename-clause-directories
 returns-in_err-rename-clause-directories g c =

@@ -9,10 +9,9 @@ use Rattle.file_model.specs.Histories.{Now, Ran, Ended}
 use Rattle.file_model.specs.Paths.{parent, temporary_of, IsInDirectory}
 use Rattle.file_model.proofs.Inside.{in_directory}
 use Rattle.file_model.proofs.InPlace.{home_now}
-use Rattle.file_model.proofs.Runs.{now_weaker}
+use Rattle.file_model.proofs.Runs.{now_weaker, files_then}
 use Rattle.file_model.proofs.Seen.{directory_on, target_on}
 use Rattle.safe_file.proofs.Whole.{apart, prepared_instants, whole_instants, whole_sees, whole_done, still_obstructed}
-use Rattle.safe_file.proofs.OnFiles.{then_files}
 use Rattle.file_model.proofs.FileCalls.{then_keeps}
 use Rattle.safe_file.proofs.replacing.replace.Goals as goal
 
@@ -74,10 +73,10 @@ returns-in-Ok-clause-obstructed g c =
     (subst (λ q. Now (g.F.Files.history c.prepare.new.files) (λ w. is_directory (seen w.disk) q ≡ true → IsErr c.publish.result × (g.F.Files.history c.publish.new.files ≡ g.F.Files.history c.prepare.new.files))) is c.publish.ensures.obstructed)
 
 pub returns-in-Ok-clause-files : goal.returns-in-Ok-clause-files
-returns-in-Ok-clause-files g c = then_files _ _ _ c.prepare.ensures.files c.publish.ensures.files
+returns-in-Ok-clause-files g c = files_then _ _ _ c.prepare.ensures.files c.publish.ensures.files
 
 pub returns-clause-files : goal.returns-clause-files
-returns-clause-files g c = then_files _ _ _ c.prepare.ensures.files c.publish.ensures.files
+returns-clause-files g c = files_then _ _ _ c.prepare.ensures.files c.publish.ensures.files
 
 pub returns-in-Ok-clause-directories : goal.returns-in-Ok-clause-directories
 returns-in-Ok-clause-directories g c = then_keeps _ _ _ c.prepare.ensures.directories c.publish.ensures.directories
