@@ -14,6 +14,9 @@ a\nb\r => a\r\nb\r | a\nb\r
 \r\n\r\r\n\n => \r\n\r\n\r\n | \n\n\n
 a => a | a
 \n => \r\n | \n
+# lines that stay, before, between and behind others
+a\r\nb\r\nc\nd\r\n\re\r\r\nf\r\n => a\r\nb\r\nc\r\nd\r\n\re\r\nf\r\n | a\nb\nc\nd\n\re\nf\n
+a\nb\nc => a\r\nb\r\nc | a\nb\nc
 \e =>  | \e
 "#;
 
@@ -86,6 +89,7 @@ const QUOTED: &str = r#"
 From c@d Tue Apr  2 08:00:00 2024\r\n => >From c@d Tue Apr  2 08:00:00 2024\r\n
 From c@d\r\n => From c@d\r\n
 >From c@d Tue Apr  2 08:00:00 2024\n => >From c@d Tue Apr  2 08:00:00 2024\n
+F\nFrom c@d Tue Apr  2 08:00:00 2024\nFr\nFrom Tue Apr  2 08:00:00 2024\nG => F\n>From c@d Tue Apr  2 08:00:00 2024\nFr\n>From Tue Apr  2 08:00:00 2024\nG
 "#;
 
 #[test]

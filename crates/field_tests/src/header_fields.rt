@@ -1,5 +1,10 @@
 //! Headers with their fields and bodies, and values on one line.
-use head_fields::{Field, Fields, Span, Spans, body_start, fields, unfold};
+ghost use Rattle.std.specs.Prelude.{◌≡◌, ◌≤◌};
+ghost use Rattle.head_fields.specs.Header.{body_start_of};
+
+use head_fields::{
+    Field, Fields, FoundBody, HeaderSearch, Span, Spans, body_start, fields, unfold,
+};
 use std::alloc::{AllocError, Global};
 use std::test::Fail;
 use test_tables::rows;
@@ -73,6 +78,38 @@ fn fields_and_bodies_of_headers(rt: HostRuntime) -> Result<(), Fail> {
     for row in &rows(rt.alloc(), HEADERS)? {
         let found = shown(rt.alloc(), row.text.as_slice())?;
         row.agrees(found.as_slice())?;
+    }
+    Ok(())
+}
+
+// Where the body begins, by fronts that grow by so many bytes.
+fn body_by_pieces(text: &[u8], width: usize) -> usize
+    requires { 1 ≤ width }
+    ensures { result ≡ body_start_of text.now }
+{
+    let mut search = HeaderSearch::begin();
+    let mut end = 0;
+    while end < text.len() {
+        end = end.saturating_add(width).min(text.len());
+        match search.find_body(&text[..end]) {
+            FoundBody::At(at) => return at,
+            FoundBody::Open(next) => search = next,
+        }
+    }
+    match search.find_body(text) {
+        FoundBody::At(at) => at,
+        FoundBody::Open(_) => text.len(),
+    }
+}
+
+#[test]
+fn bodies_begin_there_in_pieces_of_each_width(rt: HostRuntime) -> Result<(), Fail> {
+    for row in &rows(rt.alloc(), HEADERS)? {
+        for width in 1..8 {
+            let at = body_by_pieces(row.text.as_slice(), width);
+            let shown = format!(in rt.alloc(); " | {at}")?;
+            assert!(rt; row.expected.as_slice().ends_with(shown.as_bytes()));
+        }
     }
     Ok(())
 }

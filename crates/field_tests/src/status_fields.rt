@@ -1,8 +1,10 @@
 //! The status fields of unix and mmdf messages, and the base of a mailbox.
 use crate::changed_texts::{exchanged, with, without};
-use mail_fields::{Keyword, put_hex};
+use mail_fields::{Keyword, Keywords, Stamp, put_hex};
 use mail_types::Flags;
-use status_heads::{Base, Heads, put_heads, put_pseudo, read_base, read_heads};
+use status_heads::{
+    Base, Heads, put_delimiter, put_heads, put_pseudo, read_base, read_heads, read_numbered_heads,
+};
 use std::alloc::{AllocError, Global};
 use std::test::Fail;
 use test_tables::rows;
@@ -317,6 +319,57 @@ fn a_base_has_at_most_30_names(rt: HostRuntime) -> Result<(), Fail> {
     assert_eq!(rt; name_count(rt.alloc(), 30, b" K00000000")?, (31, 30));
     assert_eq!(rt; name_count(rt.alloc(), 29, b" K00000000 last")?, (31, 30));
     assert_eq!(rt; name_count(rt.alloc(), 100000, b"")?, (100000, 30));
+    Ok(())
+}
+
+// Headers of messages with `|` between, one after the other. For each its flags, its UID and the bits of its keywords, and then the
+// names that the mailbox has.
+const NUMBERED: &str = r#"
+\n => 0;
+X-Keywords: a b\n\n => 3; [a b]
+# the names of one message and of the next, in any case, again and between others
+X-Keywords: a b\n\n|X-Keywords: B c (d) A B\n\n|X-Keywords:  C \n\n => 3; 7; 4; [a b c]
+Status: R\nX-UID: 7\nX-Keywords: b\n\n|X-Keywords: a\nX-Keywords: b\n\n|\nX-Keywords: b\n => R 7 1; 2; 0; [b a]
+# the thirtieth name is the last one
+X-Keywords: a b c d e f g h i j k l m n o p q r s t u v w x y z 1 2 3\n\n|X-Keywords: 4 5 A\n\n|X-Keywords: 6 4\n\n => 536870911; 536870913; 536870912; [a b c d e f g h i j k l m n o p q r s t u v w x y z 1 2 3 4]
+"#;
+
+fn numbered(alloc: Global, headers: &[u8]) -> Result<Vec<u8>, AllocError> {
+    let mut shown = Vec::new(alloc);
+    let mut names = Keywords::of(Vec::new(alloc));
+    for header in headers.split(|byte| *byte == b'|') {
+        let heads = read_numbered_heads(alloc, header, names)?;
+        put_flags(&mut shown, heads.flags)?;
+        if let Some(uid) = heads.uid {
+            shown.extend_from_slice(format!(in alloc; " {uid}")?.as_bytes())?;
+        }
+        shown.extend_from_slice(format!(in alloc; " {};", heads.words)?.as_bytes())?;
+        names = heads.names;
+    }
+    put_names(&mut shown, names.as_slice())?;
+    Vec::from_slice(alloc, shown.get(1..).unwrap_or(b""))
+}
+
+#[test]
+fn keywords_have_numbers_by_first_sight(rt: HostRuntime) -> Result<(), Fail> {
+    for row in &rows(rt.alloc(), NUMBERED)? {
+        let found = numbered(rt.alloc(), row.text.as_slice())?;
+        row.agrees(found.as_slice())?;
+    }
+    Ok(())
+}
+
+#[test]
+fn a_delimiter_line_has_a_date_in_utc(rt: HostRuntime) -> Result<(), Fail> {
+    let stamp = Stamp {
+        day: 19814,
+        second: 43200,
+        zone_minutes: 0,
+    };
+    assert!(rt;
+        put_delimiter(rt.alloc(), stamp)?.as_slice()
+            == b"From MAILER-DAEMON Mon Apr  1 12:00:00 2024\n".as_slice()
+    );
     Ok(())
 }
 
