@@ -1,4 +1,6 @@
-use Rattle.std.proofs.Common.{arith}
+use Rattle.std.proofs.Common.{◌∙◌, [], ap, sym, arith}
+use Rattle.std.proofs.lemmas.List.{append-nil}
+use Rattle.head_fields.specs.Header.{body_start_of}
 use Rattle.head_fields.proofs.Searches.{searched-further, front-tells}
 use Rattle.field_tests.proofs.header_fields.body_by_pieces.Goals as goal
 
@@ -12,3 +14,6 @@ find_body-requires c =
 
 pub returns-in-At : goal.returns-in-At
 returns-in-At c = front-tells c.args.text.now c.min-end.result c.in-At.at c.in-At.ensures
+
+pub returns-in-At-find_body : goal.returns-in-At-find_body
+returns-in-At-find_body c = sym (c.in-At-find_body.ensures.body []) ∙ ap body_start_of (append-nil c.args.text.now)
