@@ -5,7 +5,7 @@ use Rattle.std.proofs.lemmas.Bool.{cond-true, false≢true}
 use Rattle.std.proofs.lemmas.Option.{same_Some}
 use Rattle.text_lines.specs.Blanks.{is_blank}
 use Rattle.addr_list.specs.Tokens.{Token, mark, AreTokens, none, skip_blank, skip_comment, one_run, one_quoted, one_literal, one_mark, is_mark, is_run_byte}
-use Rattle.addr_list.specs.Scanning.{Piece, piece_of, comment_piece, quoted_piece, literal_piece, run_piece, comment_len, quotes_len, literal_len}
+use Rattle.addr_list.specs.Scanning.{Piece, piece_of, comment_piece, quoted_piece, literal_piece, comment_len, quotes_len, literal_len}
 use Rattle.addr_list.specs.Addresses.{IsAddressList, ReadsAddresses}
 use Rattle.addr_list.specs.Reading.{begins, deeper, added, Reads, finished, next_element, group_ends, next_comma}
 use Rattle.addr_list.specs.declared.address.Address.{Address}

@@ -1,5 +1,5 @@
 -- The tokens of an address list (RFC 5322, sections 3.2.2 to 3.2.5 and 3.4.1).
-use Rattle.std.specs.Prelude.{◌≡◌, ℕ, Bool, true, not, List, [], ◌∷◌, ◌++◌, ◌==◌, ◌||◌, ◌&&◌, nat_le, codes}
+use Rattle.std.specs.Prelude.{◌≡◌, ℕ, Bool, true, not, List, [], ◌∷◌, ◌++◌, ◌==◌, ◌&&◌, nat_le, codes}
 use Rattle.std.specs.List.{list_any, list_all, prefix_len}
 use Rattle.text_lines.specs.Blanks.{is_blank}
 

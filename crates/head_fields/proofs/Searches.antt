@@ -3,7 +3,7 @@ use Rattle.std.proofs.Common.{◌≡◌, ◌∙◌, ℕ, suc, ◌+◌, ◌-◌, 
 use Rattle.std.specs.List.{before_first, concat}
 use Rattle.std.proofs.lemmas.Bool.{false≢true, cases_Bool, cond-true, cond-false, eqb-true}
 use Rattle.std.proofs.Math.Seq.{take-add, take-length}
-use Rattle.std.proofs.lemmas.List.{take-append-le, length-append, append_assoc, append-nil, take-append-drop, take_at, drop_more, length-take-le, get_or-take}
+use Rattle.std.proofs.lemmas.List.{take-append-le, length-append, append_assoc, append-nil, take-append-drop, take_at, drop_at, drop_more, length-take-le, get_or-take}
 use Rattle.text_lines.specs.Lines.{lines_of, header_of, is_empty_line}
 use Rattle.text_lines.proofs.Lines.{before-step}
 use Rattle.text_lines.specs.Lines.{is_open}
@@ -160,14 +160,6 @@ module _ (front : List ℕ) (search : HeaderSearch) (is : IsSearched front searc
             ∙ ap (λ l. length (concat (take (suc (n + 1)) l))) lines
             ∙ length-append ended (concat (take (n + 1) (lines_of more)))
 
--- a list behind another
-drop-at : (xs ys : List ℕ) (n : ℕ) → n ≡ length xs → drop n (xs ++ ys) ≡ ys
-drop-at xs ys n same = ap (λ n. drop n (xs ++ ys)) same ∙ behind xs
-  where
-    behind : (xs : List ℕ) → drop (length xs) (xs ++ ys) ≡ ys
-    behind [] = refl
-    behind (x ∷ xs) = behind xs
-
 -- a byte of a list, what stands before it and behind it
 split-at : (xs : List ℕ) (at : ℕ) → at < length xs → get_or xs at 0 ≡ 10 → xs ≡ take at xs ++ 10 ∷ drop (at + 1) xs
 split-at xs at inside feed =
@@ -177,7 +169,7 @@ module _ (front : List ℕ) (line seen : ℕ) (is : IsSearched front (record { l
   rest-is : drop seen front ≡ is.rest
   rest-is =
       ap (drop seen) (is.whole ∙ sym (append_assoc is.header is.begun is.rest))
-      ∙ drop-at (is.header ++ is.begun) is.rest seen (is.seen ∙ sym (length-append is.header is.begun))
+      ∙ drop_at (is.header ++ is.begun) is.rest seen (sym (is.seen ∙ sym (length-append is.header is.begun)))
 
   -- no line feed in the rest
   pub found-open : ((k : ℕ) → k < length (drop seen front) → get_or (drop seen front) k 0 ≢ 10) → IsSearched front (record { line = line; seen = length front }) × (body_start_of front ≡ length front)
@@ -217,7 +209,7 @@ module _ (front : List ℕ) (line seen : ℕ) (is : IsSearched front (record { l
         let place = is.line in
         let width : seen + at + 1 - line ≡ length own = let sum = own-length in omega (arith, sum, place) in
         ap (λ t. take (seen + at + 1 - line) (drop line t)) whole
-        ∙ ap (take (seen + at + 1 - line)) (drop-at is.header (own ++ behind) line is.line)
+        ∙ ap (take (seen + at + 1 - line)) (drop_at is.header (own ++ behind) line (sym is.line))
         ∙ take_at own behind (seen + at + 1 - line) (sym width)
 
     pub found-body : is_empty_line (slice_range front line (seen + at + 1)) ≡ true → BodyAt front (seen + at + 1)

@@ -4,6 +4,7 @@ pub mod DatePlaces
 pub mod DateTexts
 pub mod Days
 pub mod Digits
+pub mod DistinctNames
 pub mod Examples
 pub mod FromDateReads
 pub mod ReadBack

@@ -1,5 +1,5 @@
 -- The lines that divide a multipart, and the parts between them (RFC 2046, section 5.1.1).
-use Rattle.std.specs.Prelude.{◌≡◌, ℕ, Bool, false, not, List, [], ◌∷◌, ◌+◌, ◌<◌, ◌≤◌, ◌==◌, ◌||◌, ◌&&◌, if◌then◌else◌, Option, Some, None, length, take, drop}
+use Rattle.std.specs.Prelude.{◌≡◌, ℕ, Bool, false, not, List, [], ◌∷◌, ◌+◌, ◌<◌, ◌≤◌, ◌||◌, ◌&&◌, if◌then◌else◌, Option, Some, None, length, take, drop}
 use Rattle.std.specs.List.{concat, list_all, prefix_len, before_first}
 use Rattle.std.specs.Str.{bytes_eq}
 use Rattle.text_lines.specs.Blanks.{is_blank}

@@ -1,16 +1,17 @@
 -- Names read one by one.
-use Rattle.std.proofs.Common.{◌≡◌, ℕ, ◌+◌, ◌<◌, ◌≤◌, ⊎_elim, Bool, true, false, not, List, [], ◌∷◌, ◌++◌, length, Option, Some, None, cond, refl, ap, sym, ◌∙◌, subst, arith, ◌==◌, ◌&&◌, ◌||◌, nat_le, nat_lt, if◌then◌else◌, append_assoc, append-nil, length-append, length-take-le}
+use Rattle.std.proofs.Common.{◌≡◌, ℕ, ◌+◌, ◌<◌, ◌≤◌, ⊎_elim, Bool, true, false, not, List, [], ◌∷◌, ◌++◌, length, Option, Some, None, cond, refl, ap, sym, ◌∙◌, subst, arith, ◌==◌, ◌&&◌, nat_le, nat_lt, if◌then◌else◌, append_assoc, append-nil, length-append, length-take-le}
 use Rattle.std.specs.List.{list_all, list_any, slice_split, before_first, after_first, position_or_len}
 use Rattle.std.specs.Cmp.Derive.{both_true}
 use Rattle.std.proofs.lemmas.Bool.{cases_lt, lt-ltb, le-ltb, false_from_ne_true}
 use Rattle.std.proofs.Math.Bool.{and-true}
 use Rattle.std.proofs.lemmas.Bool.Decides.{nat_tests}
 use Rattle.std.proofs.lemmas.List.{length-drop, take_all}
-use Rattle.std.proofs.lemmas.List.Folds.{list_all-append, list_any-append}
+use Rattle.std.proofs.lemmas.List.Folds.{list_all-append}
 use Rattle.std.proofs.lemmas.List.Splits.{slice_split_first, slice_split_none}
 use Rattle.std.proofs.lemmas.List.Sums.{fails_before_first}
 use Rattle.mail_fields.specs.Keyword.{IsKeyword, same_keyword, is_keyword}
 use Rattle.mail_fields.specs.Names.{is_space, are_distinct}
+use Rattle.mail_fields.proofs.DistinctNames.{distinct-more, distinct-front}
 use Rattle.mix_files.specs.Names.{may_be_names, split_names, names_of}
 
 both : (one other : Bool) → (one && other) ≡ true → (one ≡ true) × (other ≡ true)
@@ -40,31 +41,6 @@ abbrev pub names_after : List (List ℕ) → List (List ℕ) → Option (List (L
 names_after read [] = Some read
 names_after read (name ∷ names) = if fits read name then names_after (read ++ name ∷ []) names else None
 
-shuffled : (a b c d : Bool) → (not (a || (b || false)) && (c && not d)) ≡ ((not a && c) && not (b || d))
-shuffled true b c d = refl
-shuffled false true true d = refl
-shuffled false true false d = refl
-shuffled false false true d = refl
-shuffled false false false d = refl
-
-differ-more : (read : List (List ℕ)) (name : List ℕ) → are_distinct (read ++ name ∷ []) ≡ (are_distinct read && not (list_any (λ each. same_keyword each name) read))
-differ-more [] name = refl
-differ-more (first ∷ read) name =
-    ap (λ taken. not taken && are_distinct (read ++ name ∷ [])) (list_any-append (same_keyword first) read (name ∷ []))
-    ∙ ap (λ later. not (list_any (same_keyword first) read || (same_keyword first name || false)) && later) (differ-more read name)
-    ∙ shuffled (list_any (same_keyword first) read) (same_keyword first name) (are_distinct read) (list_any (λ each. same_keyword each name) read)
-
-differ-front : (read more : List (List ℕ)) → are_distinct (read ++ more) ≡ true → are_distinct read ≡ true
-differ-front [] more is = refl
-differ-front (first ∷ read) more is =
-    let parts = both (not (list_any (same_keyword first) (read ++ more))) (are_distinct (read ++ more)) is in
-    both_true (not-front (list_any (same_keyword first) read) (list_any (same_keyword first) more)
-    (ap not (sym (list_any-append (same_keyword first) read more)) ∙ parts.0)) (differ-front read more parts.1)
-  where
-    not-front : (one other : Bool) → not (one || other) ≡ true → not one ≡ true
-    not-front true other is = is
-    not-front false other is = refl
-
 may-more : (read : List (List ℕ)) (name : List ℕ) → may_be_names read ≡ true → may_be_names (read ++ name ∷ []) ≡ fits read name
 may-more read name is =
     let parts = both (list_all is_keyword read) _ is in
@@ -73,7 +49,7 @@ may-more read name is =
     let keywords : list_all is_keyword (read ++ name ∷ []) ≡ is_keyword name =
     list_all-append is_keyword read (name ∷ []) ∙ ap (λ test. test && (is_keyword name && true)) parts.0 ∙ and-true (is_keyword name) in
     let differ : are_distinct (read ++ name ∷ []) ≡ not (list_any (λ each. same_keyword each name) read) =
-    differ-more read name ∙ ap (λ test. test && not (list_any (λ each. same_keyword each name) read)) others.1 in
+    distinct-more read name ∙ ap (λ test. test && not (list_any (λ each. same_keyword each name) read)) others.1 in
     ap (λ test. test && (nat_le (length (read ++ name ∷ [])) 30 && are_distinct (read ++ name ∷ []))) keywords
     ∙ ap (λ test. is_keyword name && (test && are_distinct (read ++ name ∷ []))) few
     ∙ ap (λ test. is_keyword name && (not (nat_le 30 (length read)) && test)) differ
@@ -83,7 +59,7 @@ may-front read more is =
     let parts = both (list_all is_keyword (read ++ more)) _ is in
     let others = both (nat_le (length (read ++ more)) 30) _ parts.1 in
     both_true (both (list_all is_keyword read) (list_all is_keyword more) (sym (list_all-append is_keyword read more) ∙ parts.0)).0
-    (both_true (grind (arith, nat_tests, others.0, length-append read more)) (differ-front read more others.1))
+    (both_true (grind (arith, nat_tests, others.0, length-append read more)) (distinct-front read more others.1))
 
 true-false : true ≡ false → ⊥
 true-false is = cc

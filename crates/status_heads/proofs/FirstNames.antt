@@ -1,27 +1,12 @@
 -- The first names of a value: at most 30, and no two the same.
-use Rattle.std.proofs.Common.{◌≡◌, ℕ, ◌≤◌, ⊎_elim, Bool, true, false, not, List, [], ◌∷◌, ◌++◌, length, length-append, cond, refl, ap, sym, ◌∙◌, subst, arith, ◌&&◌, ◌||◌, nat_lt}
+use Rattle.std.proofs.Common.{◌≡◌, ℕ, ◌≤◌, ⊎_elim, true, not, List, [], ◌∷◌, ◌++◌, length, length-append, cond, refl, ap, sym, ◌∙◌, subst, arith, ◌&&◌, nat_lt}
 use Rattle.std.specs.List.{list_any}
 use Rattle.std.proofs.lemmas.Bool.{cases_Bool, and_parts}
 use Rattle.std.proofs.lemmas.Bool.Decides.{nat_tests}
-use Rattle.std.proofs.lemmas.List.Folds.{list_any-append}
 use Rattle.mail_fields.specs.Keyword.{same_keyword, is_keyword}
 use Rattle.mail_fields.specs.Names.{are_distinct}
+use Rattle.mail_fields.proofs.DistinctNames.{distinct-more}
 use Rattle.status_heads.specs.Names.{is_new, words_of, with_names}
-
-shuffled : (a b c d : Bool) → (not (a || (b || false)) && (c && not d)) ≡ ((not a && c) && not (b || d))
-shuffled true b c d = refl
-shuffled false true true d = refl
-shuffled false true false d = refl
-shuffled false false true d = refl
-shuffled false false false d = refl
-
--- one name more
-pub distinct-more : (names : List (List ℕ)) (name : List ℕ) → are_distinct (names ++ name ∷ []) ≡ (are_distinct names && not (list_any (λ each. same_keyword each name) names))
-distinct-more [] name = refl
-distinct-more (first ∷ names) name =
-    ap (λ taken. not taken && are_distinct (names ++ name ∷ [])) (list_any-append (same_keyword first) names (name ∷ []))
-    ∙ ap (λ later. not (list_any (same_keyword first) names || (same_keyword first name || false)) && later) (distinct-more names name)
-    ∙ shuffled (list_any (same_keyword first) names) (same_keyword first name) (are_distinct names) (list_any (λ each. same_keyword each name) names)
 
 -- names that a mailbox may have
 abbrev May : List (List ℕ) → Type 0

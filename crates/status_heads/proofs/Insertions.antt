@@ -10,7 +10,7 @@ use Rattle.text_lines.proofs.Texts.{is_closed, joined, AreLines, are-lines, line
 use Rattle.text_lines.specs.Blanks.{is_continuation}
 use Rattle.text_forms.specs.Lines.{is_dropped, is_reserved}
 use Rattle.text_forms.specs.Forms.{drop_reserved, has_empty_line, unreserved_lines, has_reserved}
-use Rattle.text_forms.proofs.ReservedFields.{all-gone, unreserved-lines}
+use Rattle.text_forms.proofs.ReservedFields.{or_parts, all-gone, unreserved-lines}
 use Rattle.status_heads.specs.Insertions.{with_fields}
 
 -- a line with LF at its end and something before its line end
@@ -32,10 +32,6 @@ pub record IsMade (line : List ℕ) : Type 0 where
 abbrev pub Each : (List ℕ → Type 0) → List (List ℕ) → Type 0
 Each P [] = Unit {0}
 Each P (line ∷ lines) = P line × Each P lines
-
-or_parts : (a b : Bool) → (a || b) ≡ false → (a ≡ false) × (b ≡ false)
-or_parts true b h = absurd (false≢true (sym h))
-or_parts false b h = (refl, h)
 
 -- lines up to the first empty one, that one, and what stands behind it
 pub record IsSplit (lines front : List (List ℕ)) (line : List ℕ) (rest : List (List ℕ)) : Type 0 where

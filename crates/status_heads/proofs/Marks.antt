@@ -5,6 +5,7 @@ use Rattle.std.proofs.lemmas.Bool.{cases_Bool, and_parts, false≢true}
 use Rattle.std.proofs.lemmas.Bool.Decides.{nat_tests}
 use Rattle.std.proofs.lemmas.List.Folds.{list_any-append}
 use Rattle.std.proofs.lemmas.Slice.Eq.{bytes_eq-Decides}
+use Rattle.text_forms.proofs.ReservedFields.{or_parts}
 use Rattle.mail_fields.specs.Keyword.{same_keyword, is_keyword, lower}
 use Rattle.status_heads.specs.Names.{is_new, with_names}
 use Rattle.status_heads.specs.Numbered.{marks_of, mark_same}
@@ -69,13 +70,9 @@ joined-last (mark ∷ marks) (first ∷ names) words name same =
 others : (names words : List (List ℕ)) (word : List ℕ) → list_any (λ each. same_keyword each word) names ≡ false → marks_of names (word ∷ words) ≡ marks_of names words
 others [] words word none = refl
 others (name ∷ names) words word none =
-    let parts = neither (same_keyword name word) (list_any (λ each. same_keyword each word) names) none in
+    let parts = or_parts (same_keyword name word) (list_any (λ each. same_keyword each word) names) none in
     ap (λ is. (is || list_any (same_keyword name) words) ∷ marks_of names (word ∷ words)) parts.0
     ∙ ap (λ rest. list_any (same_keyword name) words ∷ rest) (others names words word parts.1)
-  where
-    neither : (a b : Bool) → (a || b) ≡ false → (a ≡ false) × (b ≡ false)
-    neither true b is = absurd (false≢true (sym is))
-    neither false b is = (refl, is)
 
 pub same-self : (name : List ℕ) → same_keyword name name ≡ true
 same-self name = (bytes_eq-Decides (map lower name) (map lower name)).1 refl

@@ -1,11 +1,10 @@
 -- The message that holds a base, read back.
-use Rattle.std.proofs.Common.{◌≡◌, ◌≢◌, ℕ, ◌<◌, ◌≤◌, ◌^◌, inl, Bool, true, false, not, cond, List, [], ◌∷◌, ◌++◌, ◌||◌, nat_le, nat_lt, length, length-append, append_assoc, append-nil, codes, Some, None, refl, ap, sym, ◌∙◌, arith}
+use Rattle.std.proofs.Common.{◌≡◌, ◌≢◌, ℕ, ◌<◌, ◌≤◌, ◌^◌, inl, Bool, true, false, not, cond, List, [], ◌∷◌, ◌++◌, nat_le, nat_lt, length, length-append, append_assoc, append-nil, codes, Some, None, refl, ap, sym, ◌∙◌, arith}
 use Rattle.std.specs.Char.{is_digit}
 use Rattle.std.specs.Cmp.Derive.{both_true}
 use Rattle.std.specs.List.{before_first, concat, list_all, list_any}
 use Rattle.std.proofs.lemmas.Bool.{and_parts}
 use Rattle.std.proofs.lemmas.Bool.Decides.{nat_tests}
-use Rattle.std.proofs.lemmas.List.Folds.{list_any-append}
 use Rattle.text_lines.specs.Lines.{lines_of, header_of, is_empty_line}
 use Rattle.text_lines.proofs.Texts.{AreLines, lines-joined}
 use Rattle.head_fields.specs.Fields.{readings_of}
@@ -22,7 +21,7 @@ use Rattle.status_heads.specs.HeadTexts.{field_line, names_text, spaced_names}
 use Rattle.status_heads.specs.Names.{is_new, with_names, words_of}
 use Rattle.status_heads.specs.Numbers.{number_between, greatest_uid}
 use Rattle.status_heads.specs.PseudoTexts.{base_text, pseudo_message, ten_digits}
-use Rattle.status_heads.proofs.FirstNames.{distinct-more}
+use Rattle.mail_fields.proofs.DistinctNames.{distinct-more, distinct-front}
 use Rattle.status_heads.proofs.Insertions.{Each, IsFilled, IsMade, lines-before, header-before, header-end}
 use Rattle.status_heads.proofs.MadeLines.{is_clean, IsReservedName, made-line, line-reads}
 use Rattle.status_heads.proofs.WrittenValues.{names-clean, names-unfolded, words-again}
@@ -57,17 +56,6 @@ number-again low high number small least most =
     let first : nat_le low number ≡ true = grind (arith, nat_tests, least) in
     let second : nat_le number high ≡ true = grind (arith, nat_tests, most) in
     rw (length-digits_in 10 10 number, number-digits 10 10 number (omega arith) (omega arith) small, first, second) refl
-
-distinct-front : (names more : List (List ℕ)) → are_distinct (names ++ more) ≡ true → are_distinct names ≡ true
-distinct-front [] more is = refl
-distinct-front (first ∷ names) more is =
-    let parts = and_parts (not (list_any (same_keyword first) (names ++ more))) (are_distinct (names ++ more)) is in
-    both_true (not-front (list_any (same_keyword first) names) (list_any (same_keyword first) more)
-    (ap not (sym (list_any-append (same_keyword first) names more)) ∙ parts.0)) (distinct-front names more parts.1)
-  where
-    not-front : (one other : Bool) → not (one || other) ≡ true → not one ≡ true
-    not-front true other is = is
-    not-front false other is = refl
 
 -- names that a mailbox may have are all taken
 with-all : (front names : List (List ℕ)) → length (front ++ names) ≤ 30 → are_distinct (front ++ names) ≡ true → list_all is_keyword names ≡ true → with_names front names ≡ front ++ names

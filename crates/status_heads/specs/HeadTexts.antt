@@ -12,6 +12,7 @@ field_line name value = name ++ codes ": " ++ value ++ codes "\n"
 abbrev pub lines_of_field : List ℕ → List ℕ → List (List ℕ)
 lines_of_field name value = if length value == 0 then [] else field_line name value ∷ []
 
+-- a letter, where it is set
 abbrev pub letter_if : Bool → ℕ → List ℕ
 letter_if set letter = if set then letter ∷ [] else []
 

@@ -10,17 +10,8 @@ use Rattle.text_lines.proofs.OpenLines.{closed-other, closed-behind, closed-text
 pub use Rattle.text_lines.proofs.OpenLines.{closed-before, open-before, open-first, open-behind, open-then-closed}
 use Rattle.text_forms.specs.Lines.{is_ended, with_end, ended_line}
 
-same_test : (a b c : ℕ) → a + b ≡ c → nat_lt a c ≡ nat_lt 0 b
-same_test a b c e = grind (arith, nat_tests)
-
 some_test : (n : ℕ) → 0 < n → nat_lt 0 n ≡ true
 some_test n some = grind (arith, nat_tests)
-
--- a line is longer than its text where it has a line end
-pub shorter_text : (line : List ℕ) → nat_lt (length (line_text line)) (length line) ≡ is_ended line
-shorter_text line =
-    let e : length (line_text line) + length (line_end_of line) ≡ length line = sym (length-append _ _) ∙ ap length (text-then-end line) in
-    same_test _ _ _ e
 
 -- line ends of one length are the same
 pub one-end : (a b : List ℕ) → is_line_end a ≡ true → is_line_end b ≡ true → length a ≡ length b → a ≡ b

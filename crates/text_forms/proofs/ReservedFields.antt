@@ -21,7 +21,7 @@ pub none-left : (above : Bool) (text : List ℕ) → length text ≡ 0 → conca
 none-left above [] none = ap (λ l. concat (unreserved_lines above l)) (no_lines [] refl)
 none-left above (byte ∷ rest) none = absurd (omega arith)
 
-or_parts : (a b : Bool) → (a || b) ≡ false → (a ≡ false) × (b ≡ false)
+pub or_parts : (a b : Bool) → (a || b) ≡ false → (a ≡ false) × (b ≡ false)
 or_parts true b h = absurd (false≢true (sym h))
 or_parts false b h = (refl, h)
 

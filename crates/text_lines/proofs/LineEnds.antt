@@ -13,11 +13,6 @@ text-then-end (byte ∷ rest) =
       | false ↦ ap (λ tail. byte ∷ tail) (text-then-end rest)
     ]
 
--- a CR before a line end makes a longer one
-pub more-returns : (end : List ℕ) → is_line_end end ≡ true → is_line_end (13 ∷ end) ≡ true
-more-returns [] is = is
-more-returns (byte ∷ rest) is = is
-
 -- what more of a line end stands behind is a CR
 pub return-before : (line : List ℕ) (at : ℕ) → is_line_end line ≡ true → is_line_end (drop (suc at) line) ≡ true → get_or line at 0 ≡ 13
 return-before [] at is behind = absurd (false≢true is)

@@ -1,4 +1,4 @@
-use Rattle.std.proofs.Common.{◌≡◌, ◌≤◌, ◌+◌, ◌∷◌, ◌++◌, [], ℕ, List, length, take, drop, slice_range, ap, sym, subst, ◌∙◌, arith}
+use Rattle.std.proofs.Common.{◌≡◌, ◌≤◌, ◌+◌, ◌-◌, ◌∷◌, ◌++◌, [], ℕ, List, length, take, drop, slice_range, ap, sym, subst, ◌∙◌, arith}
 use Rattle.std.proofs.lemmas.Bool.{false≢true}
 use Rattle.std.proofs.lemmas.List.{take_rest, length-drop}
 use Rattle.text_lines.specs.Lines.{lines_of}
@@ -48,6 +48,9 @@ module _ (form : List ℕ → List ℕ) (text out : List ℕ) (copied at : ℕ) 
   all-there : out ++ drop copied text ≡ formed form text
   all-there = ap (λ tail. out ++ tail) (sym (none-behind form text copied at past)) ∙ whole
 
+  all-copied : (made : List ℕ) → made ≡ out ++ take (length text - copied) (drop copied text) → made ≡ formed form text
+  all-copied made is = is ∙ ap (λ tail. out ++ tail) (take_rest text copied) ∙ all-there
+
   unchanged : (out ≡ []) × (copied ≡ 0) → formed form text ≡ text
   unchanged none = sym all-there ∙ ap (λ o. o ++ drop copied text) none.0 ∙ ap (λ n. drop n text) none.1
 
@@ -58,7 +61,5 @@ returns-then-not-is_changed-clause-same g c =
 
 pub returns-clause-changed : goal.returns-clause-changed
 returns-clause-changed g c =
-    let text = c.args.text.now in
-    let copied = c.loop-at.copied in
-    c.in_ok-extend_from_slice.ensures.items ∙ ap (λ tail. c.loop-at.out.items ++ tail) (take_rest text copied)
-    ∙ all-there g.F.LineForm.form text c.loop-at.out.items copied c.loop-at.at (omega (arith, c.loop-at-test.false)) c.loop-at.invariant.whole
+    all-copied g.F.LineForm.form c.args.text.now c.loop-at.out.items c.loop-at.copied c.loop-at.at (omega (arith, c.loop-at-test.false)) c.loop-at.invariant.whole
+    c.extend_from_slice.new.self.items c.in_ok-extend_from_slice.ensures.items
