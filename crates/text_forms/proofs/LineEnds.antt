@@ -190,6 +190,9 @@ module _ (end : List ℕ) (is : is_line_end end ≡ true) where
         ∙ ap (λ text. text ++ other) (text-same line closed)
         ∙ sym (cond-true (is_ended line) (line_text line ++ other) line (closed-ended line closed))
 
+    pub with-end-twice : (line : List ℕ) → is_closed line ≡ true → with_end end (with_end end line) ≡ with_end end line
+    with-end-twice = with-end-over end
+
 pub ended-closed : (line : List ℕ) → is_closed line ≡ true → ended_line line ≡ line
 ended-closed line closed = cond-true (is_ended line) line (line ++ 10 ∷ []) (closed-ended line closed)
 

@@ -5,7 +5,7 @@ use Rattle.std.proofs.lemmas.Bool.{cases_Bool, cond-true, cond-false}
 use Rattle.text_lines.specs.Lines.{lines_of, is_line_end}
 use Rattle.text_lines.proofs.Texts.{is_closed, is_open, AreLines, are-lines, lines-joined, map-lines, flat-is-joined}
 use Rattle.text_forms.specs.Lines.{with_end, kept_line, stored_line, ended_line, marked_line}
-use Rattle.text_forms.proofs.LineEnds.{closed-before, open-before, with-end-closed, with-end-open, with-end-over, ended-closed, ended-open}
+use Rattle.text_forms.proofs.LineEnds.{closed-before, open-before, with-end-closed, with-end-open, with-end-twice, ended-closed, ended-open}
 
 -- a form that makes a line of a line, and the same line again
 pub record IsLineForm (form : List ℕ → List ℕ) : Type 0 where
@@ -44,7 +44,7 @@ end-is end is one = record {
   last = λ line some open_line.
       let same = with-end-open end is one line open_line in
       subst (λ l. AreLines (l ∷ [])) (sym same) (inr (some, open_line, refl));
-  twice = λ line closed. with-end-over end is one end line closed;
+  twice = λ line closed. with-end-twice end is one line closed;
   last_twice = λ line open_line. ap (with_end end) (with-end-open end is one line open_line);
 }
 
