@@ -1,32 +1,38 @@
 //! Each call of the host failing once.
-use crate::run::{Disk, host, run};
+use crate::run::{host, run, status_name};
+use bare_host::BareHost;
 use imapd_core::Status;
-use mem_host::MemHost;
 use std::alloc::{AllocError, Global};
 use std::process::Abort;
+use std::test::Fail;
 
 const INPUT: &[u8] = b"a STATUS INBOX (MESSAGES)\r\nb NOOP\r\n";
 
-// The input comes in two pieces, the second inside a line.
-const CUTS: &[usize] = &[30, 1];
-
-const DISKS: [Disk<'static>; 2] = [
-    Disk::Root,
-    Disk::Inbox(b"From a@b Mon Apr  1 12:00:00 2024\n"),
-];
+// The input comes in three pieces, the second a byte inside a line.
+fn waiting(alloc: Global, disk: &str) -> Result<BareHost, AllocError> {
+    let mut host = host(alloc, disk)?;
+    let (first, rest) = INPUT.split_at_checked(30).unwrap_or((INPUT, &[]));
+    let (second, third) = rest.split_at_checked(1).unwrap_or((rest, &[]));
+    host.add_input(first)?;
+    host.add_input(second)?;
+    host.add_input(third)?;
+    Ok(host)
+}
 
 // The status is that of the call that failed, its count alone rose, and what was said begins what is said without a fault.
 #[test]
-fn a_failed_call_ends_the_session(rt: HostRuntime) -> Result<(), AllocError> {
-    let alloc = rt.alloc();
-    for disk in &DISKS {
-        let mut whole = host(alloc, *disk, INPUT, CUTS, &[])?;
-        let status = run(alloc, &mut whole)?;
-        assert!(rt; status == Status::Done);
-        assert!(rt; fault_of(&whole).is_none());
-        for number in 0..whole.calls() {
-            fails(&rt, alloc, *disk, number, whole.said())?;
-        }
+fn a_failed_call_ends_the_session(rt: HostRuntime) -> Result<(), Fail> {
+    fails_once(&rt, rt.alloc(), "root")?;
+    fails_once(&rt, rt.alloc(), "file From a@b Mon Apr  1 12:00:00 2024\n")
+}
+
+fn fails_once(rt: &impl Abort, alloc: Global, disk: &str) -> Result<(), Fail> {
+    let mut whole = waiting(alloc, disk)?;
+    let status = run(alloc, &mut whole)?;
+    assert!(rt; status == Status::Done);
+    assert!(rt; fault_of(&whole) == "none");
+    for number in 0..whole.calls() {
+        fails(rt, alloc, disk, number, whole.said())?;
     }
     Ok(())
 }
@@ -34,13 +40,14 @@ fn a_failed_call_ends_the_session(rt: HostRuntime) -> Result<(), AllocError> {
 fn fails(
     rt: &impl Abort,
     alloc: Global,
-    disk: Disk<'_>,
+    disk: &str,
     number: u64,
     said: &[u8],
 ) -> Result<(), AllocError> {
-    let mut host = host(alloc, disk, INPUT, CUTS, &[number])?;
+    let mut host = waiting(alloc, disk)?;
+    host.fail_call(number)?;
     let status = run(alloc, &mut host)?;
-    assert!(rt; Some(status) == fault_of(&host), "call {number}");
+    assert!(rt; status_name(status) == fault_of(&host), "call {number}");
     assert!(rt; said.starts_with(host.said()), "call {number}");
     assert!(rt;
         host.calls().checked_sub(1) == Some(number),
@@ -50,11 +57,11 @@ fn fails(
 }
 
 // The status of the one count that is 1.
-fn fault_of(host: &MemHost) -> Option<Status> {
+fn fault_of(host: &BareHost) -> &'static str {
     match (host.file_faults(), host.hear_faults(), host.say_faults()) {
-        (1, 0, 0) => Some(Status::FileFault),
-        (0, 1, 0) => Some(Status::HearFault),
-        (0, 0, 1) => Some(Status::SayFault),
-        _ => None,
+        (1, 0, 0) => "FileFault",
+        (0, 1, 0) => "HearFault",
+        (0, 0, 1) => "SayFault",
+        _ => "none",
     }
 }

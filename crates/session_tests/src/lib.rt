@@ -1,4 +1,4 @@
-//! Runs of the top call `imapd` over a host in memory, as tables.
+//! Runs of the top call `imapd` over a bare host in memory, as tables.
 //!
 //! What the clauses of the top call say is proved there. The rows here tie the definitions that it cites to examples, and
 //! show that the call succeeds with ample memory.
@@ -10,7 +10,8 @@ mod failing_calls;
 mod limits;
 #[cfg(test)]
 mod replies;
-pub mod run;
+#[cfg(test)]
+mod run;
 #[cfg(test)]
 mod streams;
 #[cfg(test)]

@@ -1,5 +1,5 @@
 //! The greatest INBOX and the longest line, each run also with a byte for each read of the input.
-use crate::run::{Disk, bytewise, host, run};
+use crate::run::{GREETING, add_input, host, run};
 use imapd_core::Status;
 use std::alloc::{AllocError, Global};
 use std::process::Abort;
@@ -8,23 +8,32 @@ const MOST: usize = 16 << 20;
 
 const STATUS: &[u8] = b"a STATUS INBOX (MESSAGES)\r\n";
 
-const GREETING: &[u8] = b"* PREAUTH [CAPABILITY IMAP4rev1] ready\r\n";
-
 // The session ends well, and this is said behind the greeting.
 fn says(
     rt: &impl Abort,
     alloc: Global,
-    disk: Disk<'_>,
+    inbox: &[u8],
     input: &[u8],
     said: &[u8],
 ) -> Result<(), AllocError> {
-    let single_bytes = bytewise(alloc, input)?;
-    for cuts in [&[], single_bytes.as_slice()] {
-        let mut host = host(alloc, disk, input, cuts, &[])?;
-        let status = run(alloc, &mut host)?;
-        assert!(rt; status == Status::Done);
-        assert!(rt; host.said().strip_prefix(GREETING) == Some(said));
-    }
+    says_so(rt, alloc, inbox, input, said, false)?;
+    says_so(rt, alloc, inbox, input, said, true)
+}
+
+fn says_so(
+    rt: &impl Abort,
+    alloc: Global,
+    inbox: &[u8],
+    input: &[u8],
+    said: &[u8],
+    bytewise: bool,
+) -> Result<(), AllocError> {
+    let mut host = host(alloc, "root")?;
+    host.put_file("/m/INBOX", inbox)?;
+    add_input(&mut host, input, bytewise)?;
+    let status = run(alloc, &mut host)?;
+    assert!(rt; status == Status::Done);
+    assert!(rt; host.said().strip_prefix(GREETING) == Some(said));
     Ok(())
 }
 
@@ -35,7 +44,7 @@ fn an_inbox_of_16_mib_is_counted(rt: HostRuntime) -> Result<(), AllocError> {
     says(
         &rt,
         rt.alloc(),
-        Disk::Inbox(inbox.as_slice()),
+        inbox.as_slice(),
         STATUS,
         b"a NO ill-formed unix store after 0 records\r\n",
     )?;
@@ -43,7 +52,7 @@ fn an_inbox_of_16_mib_is_counted(rt: HostRuntime) -> Result<(), AllocError> {
     says(
         &rt,
         rt.alloc(),
-        Disk::Inbox(inbox.as_slice()),
+        inbox.as_slice(),
         STATUS,
         b"a NO not built\r\n",
     )
@@ -59,7 +68,7 @@ fn a_long_line_is_one_line(rt: HostRuntime) -> Result<(), AllocError> {
         says(
             &rt,
             rt.alloc(),
-            Disk::Inbox(b""),
+            b"",
             input.as_slice(),
             b"a BAD not built\r\n* BYE bye\r\nb OK LOGOUT done\r\n",
         )?;

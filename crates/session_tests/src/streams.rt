@@ -1,83 +1,71 @@
 //! Streams with their lines as RFC 3501 has them, cut in many ways.
 use command_lines::{Feed, units_of_pieces};
 use std::alloc::Global;
-use std::process::Abort;
 use std::test::Fail;
+use test_tables::{Row, rows};
 
-// A stream, its lines, and whether it ends between two of them.
-const CASES: [(&[u8], &[&[u8]], bool); 12] = [
-    (b"", &[], true),
-    (b"\n", &[], false),
-    (b"\r", &[], false),
-    (b"\r\n", &[b""], true),
-    (b"\n\r", &[], false),
-    (b"\n\r\n", &[b"\n"], true),
-    (b"\r\r\n", &[b"\r"], true),
-    (b"\r\n\n", &[b""], false),
-    (b"\r\n\r", &[b""], false),
-    (b"a\nb\rc\r\n", &[b"a\nb\rc"], true),
-    (b"a\r\n\r\n\nb\r\n", &[b"a", b"", b"\nb"], true),
-    (
-        b"a1 NOOP\r\na2 LOGOUT\r\na3",
-        &[b"a1 NOOP", b"a2 LOGOUT"],
-        false,
-    ),
-];
+// A stream, and its lines, each with a semicolon behind it; `..` where it ends within one.
+const CASES: &str = r#"
+\e => \e
+\n => ..
+\r => ..
+\r\n => ;
+\n\r => ..
+\n\r\n => \n;
+\r\r\n => \r;
+\r\n\n => ;..
+\r\n\r => ;..
+a\nb\rc\r\n => a\nb\rc;
+a\r\n\r\n\nb\r\n => a;;\nb;
+a1 NOOP\r\na2 LOGOUT\r\na3 => a1 NOOP;a2 LOGOUT;..
+# of a line its first 65,536 bytes are kept
+\(65534:x\)y\r\nnext\r\n => \(65534:x\)y;next;
+\(65535:x\)y\r\nnext\r\n => \(65535:x\)y;next;
+\(65536:x\)y\r\nnext\r\n => \(65536:x\);next;
+\(65537:x\)y\r\nnext\r\n => \(65536:x\);next;
+\(199999:x\)y\r\nnext\r\n => \(65536:x\);next;
+"#;
 
-// Takes the pieces of a stream, and compares the lines.
-fn assert_lines(
-    rt: &impl Abort,
-    alloc: Global,
-    pieces: &[&[u8]],
-    lines: &[&[u8]],
-    at_rest: bool,
-) -> Result<(), Fail> {
+// The lines of a stream that comes in pieces.
+fn lines(alloc: Global, pieces: &[&[u8]]) -> Result<Vec<u8>, Fail> {
     let mut feed = Feed::new(alloc);
     let mut units = Vec::new(alloc);
     for piece in pieces {
         feed.take(piece, &mut units)?;
     }
-    assert_eq!(rt; units.len(), lines.len());
-    for (unit, line) in units.iter().zip(lines) {
-        assert_eq!(rt; unit.as_slice(), *line);
+    let mut shown = Vec::new(alloc);
+    for unit in units.iter() {
+        shown.extend_from_slice(unit.as_slice())?;
+        shown.push(b';')?;
     }
-    assert_eq!(rt; feed.at_rest(), at_rest);
-    Ok(())
+    if !feed.at_rest() {
+        shown.extend_from_slice(b"..")?;
+    }
+    Ok(shown)
+}
+
+// Short streams are cut at each place, long ones around their first line end.
+fn agrees_cut(alloc: Global, row: &Row) -> Result<(), Fail> {
+    let stream = row.text.as_slice();
+    let first = stream
+        .len()
+        .saturating_sub(if stream.len() > 100 { 9 } else { stream.len() });
+    let mut single_bytes = Vec::new(alloc);
+    for at in first..stream.len() {
+        let (one, other) = stream.split_at_checked(at).unwrap_or((stream, &[]));
+        row.agrees(lines(alloc, &[one, other])?.as_slice())?;
+        if at == first {
+            single_bytes.push(one)?;
+        }
+        single_bytes.push(other.get(..1).unwrap_or(&[]))?;
+    }
+    row.agrees(lines(alloc, single_bytes.as_slice())?.as_slice())
 }
 
 #[test]
 fn lines_are_the_same_however_the_stream_is_cut(rt: HostRuntime) -> Result<(), Fail> {
-    for (stream, lines, at_rest) in CASES {
-        let mut single_bytes = Vec::new(rt.alloc());
-        for at in 0..stream.len() {
-            assert_lines(
-                &rt,
-                rt.alloc(),
-                &[&stream[..at], &stream[at..]],
-                lines,
-                at_rest,
-            )?;
-            single_bytes.push(&stream[at..at + 1])?;
-        }
-        assert_lines(&rt, rt.alloc(), single_bytes.as_slice(), lines, at_rest)?;
-    }
-    Ok(())
-}
-
-#[test]
-fn long_lines_keep_65536_bytes(rt: HostRuntime) -> Result<(), Fail> {
-    for (length, kept) in [
-        (65_535, 65_535),
-        (65_536, 65_536),
-        (65_537, 65_536),
-        (65_538, 65_536),
-        (200_000, 65_536),
-    ] {
-        let mut line = Vec::new(rt.alloc());
-        line.resize(length - 1, b'x')?;
-        line.push(b'y')?;
-        let pieces = [line.as_slice(), b"\r", b"\nnext\r\n"];
-        assert_lines(&rt, rt.alloc(), &pieces, &[&line[..kept], b"next"], true)?;
+    for row in rows(rt.alloc(), CASES)?.iter() {
+        agrees_cut(rt.alloc(), row)?;
     }
     Ok(())
 }

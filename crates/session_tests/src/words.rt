@@ -1,67 +1,68 @@
 //! The words of the top call.
-use crate::run::{Disk, host, run_words};
-use imapd_core::Status;
-use mem_host::MemHost;
+use crate::run::{host, outcome, run_words};
+use bare_host::BareHost;
 use std::alloc::{AllocError, Global};
 use std::process::Abort;
+use std::test::Fail;
+use test_tables::{Row, rows};
 
-const LONG: usize = 1024;
+// The words, each with a semicolon behind it; the status, what is said and INBOX.
+const CASES: &str = r#"
+# no words, two words, and an empty word
+\e => Words | nothing | file hello\n
+/m;/m; => Words | nothing | file hello\n
+; => Words | nothing | file hello\n
+# a word that names a file, one at which nothing stands, one below a file, and one with NUL
+/m/INBOX; => Words | nothing | file hello\n
+/n; => Words | nothing | file hello\n
+/m/INBOX/x; => Words | nothing | file hello\n
+/m\0; => Words | nothing | file hello\n
+# the longest root, at which a directory stands, and one byte more
+/\(1023:x\); => Done | * BYE bye\r\na OK LOGOUT done\r\n | file hello\n
+/\(1024:x\); => Words | nothing | file hello\n
+"#;
 
-const CASES: [(&str, &[&str]); 7] = [
-    ("no words", &[]),
-    ("two words", &["/m", "/m"]),
-    ("an empty word", &[""]),
-    ("a word that names a file", &["/m/INBOX"]),
-    ("a word at which nothing stands", &["/n"]),
-    ("a word below a file", &["/m/INBOX/x"]),
-    ("a word with NUL", &["/m\0"]),
-];
-
-#[test]
-fn words_that_are_no_root_are_refused(rt: HostRuntime) -> Result<(), AllocError> {
-    for (shows, words) in &CASES {
-        refused(&rt, rt.alloc(), shows, words)?;
-    }
-    Ok(())
-}
-
-// Nothing is said, and at most the root was looked up.
-fn refused(rt: &impl Abort, alloc: Global, shows: &str, words: &[&str]) -> Result<(), AllocError> {
-    let mut host = host(alloc, Disk::Inbox(b"hello\n"), b"a LOGOUT\r\n", &[], &[])?;
-    let status = run_words(alloc, &mut host, words)?;
-    assert!(rt; status == Status::Words, "status: {shows}");
-    assert!(rt; host.said().is_empty(), "said: {shows}");
-    assert!(rt; host.calls() <= 1, "calls: {shows}");
-    assert!(rt;
-        host.file("/m/INBOX") == Some(b"hello\n".as_slice()),
-        "INBOX: {shows}"
-    );
-    Ok(())
-}
-
-#[test]
-fn a_root_has_at_most_1024_bytes(rt: HostRuntime) -> Result<(), AllocError> {
-    let (status, said) = run_long(rt.alloc(), LONG)?;
-    assert!(rt; status == Status::Done);
-    assert!(rt;
-        said.as_slice()
-            == b"* PREAUTH [CAPABILITY IMAP4rev1] ready\r\n* BYE bye\r\na OK LOGOUT done\r\n".as_slice()
-    );
-    let (status, said) = run_long(rt.alloc(), LONG + 1)?;
-    assert!(rt; status == Status::Words);
-    assert!(rt; said.is_empty());
-    Ok(())
-}
-
-// A run over a root of so many bytes, at which a directory stands.
-fn run_long(alloc: Global, length: usize) -> Result<(Status, Vec<u8>), AllocError> {
+// At each of the long words a directory stands.
+fn host_of(alloc: Global) -> Result<BareHost, AllocError> {
+    let mut host = host(alloc, "file hello\n")?;
+    host.add_input(b"a LOGOUT\r\n")?;
     let mut root = String::from_str(alloc, "/")?;
-    for _ in 1..length {
+    for _ in 1..1024 {
         root.push('x')?;
     }
-    let mut host = MemHost::new(alloc, b"a LOGOUT\r\n", &[], &[])?;
     host.put_dir(root.as_str())?;
-    let status = run_words(alloc, &mut host, &[root.as_str()])?;
-    let said = Vec::from_slice(alloc, host.said())?;
-    Ok((status, said))
+    root.push('x')?;
+    host.put_dir(root.as_str())?;
+    Ok(host)
+}
+
+#[test]
+fn words_are_one_root(rt: HostRuntime) -> Result<(), Fail> {
+    for row in rows(rt.alloc(), CASES)?.iter() {
+        row.agrees(found(&rt, rt.alloc(), row)?.as_slice())?;
+    }
+    Ok(())
+}
+
+// Where the words are refused at most the root was looked up.
+fn found(rt: &impl Abort, alloc: Global, row: &Row) -> Result<Vec<u8>, AllocError> {
+    let words = words_of(alloc, str::from_utf8(row.text.as_slice()).unwrap_or(""))?;
+    let mut host = host_of(alloc)?;
+    let status = run_words(alloc, &mut host, words.as_slice());
+    assert!(rt; !host.said().is_empty() || host.calls() <= 1);
+    outcome(alloc, &host, status)
+}
+
+fn words_of(alloc: Global, text: &str) -> Result<Vec<String>, AllocError> {
+    let mut words = Vec::new(alloc);
+    let mut word = String::new(alloc);
+    for letter in text.chars() {
+        if letter == ';' {
+            words.push(word)?;
+            word = String::new(alloc);
+        } else {
+            word.push(letter)?;
+        }
+    }
+    Ok(words)
 }
