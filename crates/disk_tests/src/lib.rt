@@ -1,13 +1,11 @@
-//! Runs of the crates on files over a host in memory, as tables; and a change that is settled before it is acknowledged.
+//! Runs of the crates on files over the hosts in memory, as tables; and a change that is settled before it is acknowledged.
 #![tactic(auto)]
 
 pub mod acknowledged;
 #[cfg(test)]
+mod calls;
+#[cfg(test)]
 mod crashes;
-#[cfg(test)]
-mod memory_host;
-#[cfg(test)]
-mod reach;
 #[cfg(test)]
 mod real_files;
 #[cfg(test)]

@@ -6,16 +6,15 @@ use Rattle.file_model.specs.Histories.{World, Now}
 use Rattle.file_model.specs.Images.{node_at}
 use Rattle.file_model.specs.Kinds.{kind_of, CanMove}
 use Rattle.file_model.proofs.Runs.{now_both, now_weaker}
-use Rattle.mem_host.specs.State.{history_of}
 use Rattle.disk_tests.proofs.Moving.{can_move}
 use Rattle.disk_tests.proofs.steps.move_dir.Goals as goal
 
 pub rename-requires : goal.rename-requires
-rename-requires c =
+rename-requires g c =
     let room : World → Type 0 = λ w. Dir ≡ kind_of (node_at (seen w.disk) (codes "/m")) in
     let there : World → Type 0 = λ w. Dir ≡ kind_of (node_at (seen w.disk) (codes "/m/a")) in
     let free : World → Type 0 = λ w. Nothing ≡ kind_of (node_at (seen w.disk) (codes "/m/b")) in
-    let last = history_of c.stands-then-branch-2.new.host in
+    let last = g.F.Files.history c.stands-then-branch-2.new.host in
     let second = c.in_ok-stands-3.ensures.same in
     let first = second ∙ c.in_ok-stands-2.ensures.same in
     let one : Now last room = subst (λ h. Now h room) (sym (first ∙ c.in_ok-stands.ensures.same)) (c.in_ok-stands.ensures.stands c.if-branch.true) in
