@@ -26,10 +26,6 @@ history_of state = replay state.events
 abbrev pub seen_of : State → Image
 seen_of state = seen_after state.events
 
--- the bytes heard
-abbrev pub heard_of : State → List ℕ
-heard_of state = (world_after state.events).streams.heard
-
 -- the bytes said
 abbrev pub said_of : State → List ℕ
 said_of state = (world_after state.events).streams.said

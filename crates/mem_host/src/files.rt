@@ -1,5 +1,5 @@
 // The calls on the files.
-ghost use Rattle.std.specs.Prelude.{◌≡◌, ◌≤◌, ◌∷◌, ◌↔◌, IsTrue, IsErr, IsErrOf, IfOk, OnOk, IsPermutation, true, length, drop, map, string_bytes};
+ghost use Rattle.std.specs.Prelude.{◌≡◌, ◌≤◌, ◌∷◌, ◌↔◌, ◌⊎◌, IsTrue, IsErr, IsErrOf, IfOk, OnOk, IsPermutation, true, length, drop, map, string_bytes};
 ghost use Rattle.file_model.specs.Images.{node_at, is_directory, names_in};
 ghost use Rattle.file_model.specs.Disk.{make, make_dir, write_at, cut, sync, sync_dir, rename, remove_at, seen};
 ghost use Rattle.file_model.specs.Kinds.{kind_of, IsFile, CanMake, CanMakeDirectory, CanMove, IsEmptyDirectory, Gives};
@@ -62,7 +62,7 @@ impl Files for MemHost {
         ensures names { IfOk result (λ names. Now (history_of self.old) (λ w. IsPermutation (map string_bytes names.items) (names_in (seen w.disk) dir.now))) }
         ensures same { history_of self.new ≡ history_of self.old }
         ensures cause { FaultCause self.old.faults self.new.faults result }
-        ensures fails { IsTrue (is_failing self.old) → IsErrOf result Fault.Failed }
+        ensures fails { IsErrOf result Fault.Failed ↔ IsTrue (is_failing self.old) }
         ensures next { IsReading self.old self.new }
     {
         self.mirror.look();
@@ -117,7 +117,7 @@ impl Files for MemHost {
         requires { Now (history_of self.old) (λ w. IsFile (seen w.disk) path.now length) }
         ensures goes_on { GoesOn (cut path.now length) result (history_of self.old) (history_of self.new) }
         ensures cause { FileCause self.old.faults self.new.faults result }
-        ensures fails { IsTrue (is_failing self.old) → IsErr result }
+        ensures fails { IsErr result ↔ IsTrue (is_failing self.old) }
         ensures done { OnOk result (self.new.events ≡ did (cut path.now length) ∷ self.old.events) }
         ensures next { IsQuietCall self.old self.new }
     {
@@ -128,7 +128,7 @@ impl Files for MemHost {
         requires { Now (history_of self.old) (λ w. IsFile (seen w.disk) path.now 0) }
         ensures goes_on { GoesOn (sync path.now) result (history_of self.old) (history_of self.new) }
         ensures cause { FileCause self.old.faults self.new.faults result }
-        ensures fails { IsTrue (is_failing self.old) → IsErr result }
+        ensures fails { IsErr result ↔ IsTrue (is_failing self.old) }
         ensures done { OnOk result (self.new.events ≡ did (sync path.now) ∷ self.old.events) }
         ensures next { IsQuietCall self.old self.new }
     {
@@ -139,7 +139,7 @@ impl Files for MemHost {
         requires { Now (history_of self.old) (λ w. is_directory (seen w.disk) path.now ≡ true) }
         ensures goes_on { GoesOn (sync_dir path.now) result (history_of self.old) (history_of self.new) }
         ensures cause { FileCause self.old.faults self.new.faults result }
-        ensures fails { IsTrue (is_failing self.old) → IsErr result }
+        ensures fails { IsErr result ↔ IsTrue (is_failing self.old) }
         ensures done { OnOk result (self.new.events ≡ did (sync_dir path.now) ∷ self.old.events) }
         ensures next { IsQuietCall self.old self.new }
     {
@@ -165,7 +165,7 @@ impl Files for MemHost {
         requires { Now (history_of self.old) (λ w. IsFile (seen w.disk) path.now 0) }
         ensures goes_on { GoesOn (remove_at path.now) result (history_of self.old) (history_of self.new) }
         ensures cause { FileCause self.old.faults self.new.faults result }
-        ensures fails { IsTrue (is_failing self.old) → IsErr result }
+        ensures fails { IsErr result ↔ IsTrue (is_failing self.old) }
         ensures done { OnOk result (self.new.events ≡ did (remove_at path.now) ∷ self.old.events) }
         ensures next { IsQuietCall self.old self.new }
     {
@@ -176,7 +176,7 @@ impl Files for MemHost {
         requires { Now (history_of self.old) (λ w. IsEmptyDirectory (seen w.disk) path.now) }
         ensures goes_on { GoesOn (remove_at path.now) result (history_of self.old) (history_of self.new) }
         ensures cause { FileCause self.old.faults self.new.faults result }
-        ensures fails { IsTrue (is_failing self.old) → IsErr result }
+        ensures fails { IsErr result ↔ IsTrue (is_failing self.old) }
         ensures done { OnOk result (self.new.events ≡ did (remove_at path.now) ∷ self.old.events) }
         ensures next { IsQuietCall self.old self.new }
     {
@@ -186,6 +186,7 @@ impl Files for MemHost {
 
 impl MemHost {
     ghost use Rattle.mem_host.specs.Notes.{call_of};
+    ghost use Rattle.mem_host.specs.Applied.{TakesMemory};
     ghost use Rattle.file_model.specs.Kinds.{Fits};
 
     // Does a call on the files, or refuses it.
@@ -194,6 +195,7 @@ impl MemHost {
         ensures goes_on { GoesOn (call_of request.entry) result (history_of self.old) (history_of self.new) }
         ensures cause { FileCause self.old.faults self.new.faults result }
         ensures fails { IsTrue (is_failing self.old) → IsErr result }
+        ensures memory { IsErr result → IsTrue (is_failing self.old) ⊎ TakesMemory (call_of request.entry) }
         ensures done { OnOk result (self.new.events ≡ did (call_of request.entry) ∷ self.old.events) }
         ensures next { IsQuietCall self.old self.new }
     {

@@ -1,10 +1,11 @@
 // What reads see of the disk, kept beside the record that it is the outcome of.
-ghost use Rattle.std.specs.Prelude.{◌≡◌, ◌≤◌, ◌-◌, ◌∷◌, min, length, take, drop, map, string_bytes, [], List, ℕ, IfOk, IfSome, OnOk, OnErr, None, true, false, option_map, if◌then◌else◌};
+ghost use Rattle.std.specs.Prelude.{◌≡◌, ◌≤◌, ◌-◌, ◌∷◌, min, length, take, drop, map, string_bytes, [], List, ℕ, IfOk, IfSome, IsErr, OnOk, OnErr, None, true, false, option_map, if◌then◌else◌};
 ghost use Rattle.std.specs.Borrow.{Bor};
 ghost use Rattle.std.specs.Str.{bytes_eq};
 ghost use Rattle.file_model.specs.Images.{Image, Node, nothing, node_at, bytes_at, is_directory, names_in, file, directory};
 ghost use Rattle.file_model.specs.Kinds.{kind_of, IsFile, Fits, Gives};
 ghost use Rattle.mem_host.specs.Events.{found, looked, did, refused, heard, hear_failed, said, say_failed};
+ghost use Rattle.mem_host.specs.Applied.{TakesMemory};
 ghost use Rattle.mem_host.specs.Fitting.{can_put};
 ghost use Rattle.mem_host.specs.Replay.{seen_after, said_after, AllPut};
 ghost use Rattle.mem_host.specs.Fitted.{AllFit};
@@ -113,6 +114,7 @@ impl Mirror {
         requires { Fits (call_of request) (seen_after self.old) }
         ensures ok { OnOk result (self.new ≡ did (call_of request.entry) ∷ self.old) }
         ensures err { OnErr result (self.new ≡ self.old) }
+        ensures memory { IsErr result → TakesMemory (call_of request.entry) }
     {
         if apply(self.alloc, &mut self.names, &mut self.contents, request).is_err() {
             return Err(Failed);

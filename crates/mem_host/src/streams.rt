@@ -3,7 +3,7 @@ ghost use Rattle.std.specs.Prelude.{◌≡◌, ◌++◌, ◌≤◌, ◌↔◌, �
 ghost use Rattle.file_model.specs.Histories.{Hears, Says};
 ghost use Rattle.file_model.specs.Causes.{HearCause, SayCause};
 ghost use Rattle.mem_host.specs.Coming.{piece_length, after_turn};
-ghost use Rattle.mem_host.specs.State.{history_of, heard_of, said_of, is_failing, IsNextCall, IsQuietCall};
+ghost use Rattle.mem_host.specs.State.{history_of, said_of, is_failing, IsNextCall, IsQuietCall};
 
 use crate::host::{MemHost, begin_call, fail};
 use file_model::{Failed, Host};
@@ -16,8 +16,6 @@ impl Host for MemHost {
         ensures fails { IsErr result ↔ IsTrue (is_failing self.old) }
         ensures count { IfOk result (λ n. n ≡ piece_length (length buf.old) self.old.coming.cuts (length self.old.coming.bytes)) }
         ensures gives { IfOk result (λ n. take n buf.new ≡ take n self.old.coming.bytes) }
-        ensures heard { IfOk result (λ n. heard_of self.new ≡ heard_of self.old ++ take n buf.new) }
-        ensures whole { heard_of self.new ++ self.new.coming.bytes ≡ heard_of self.old ++ self.old.coming.bytes }
         ensures rest { IfOk result (λ n. drop n buf.new ≡ drop n buf.old) }
         ensures left { IfOk result (λ n. self.new.coming ≡ after_turn n self.old.coming) }
         ensures kept { OnErr result (self.new.coming ≡ self.old.coming) }
