@@ -20,7 +20,7 @@ ghost use Rattle.store_index.specs.Steps.{change_of, told_due};
 ghost use Rattle.store_index.specs.Told.{changed_summary};
 ghost use Rattle.file_store.specs.Forms.{ReadForm, IsReadForm};
 ghost use Rattle.file_store.specs.Standing.{IsTold, StandsOn, changed_length, mailbox_in};
-ghost use Rattle.file_store.specs.Scans.{OfFile, IsEnoughOf, IsScanned, RefusesScan, IsRewritten};
+ghost use Rattle.file_store.specs.Scans.{OfFile, HasFile, IsEnoughOf, IsScanned, RefusesScan, IsRewritten};
 
 use file_model::Files;
 use mail_types::{Driver, Keeps};
@@ -54,7 +54,7 @@ pub trait Layout: Drop {
     where
         Self: Sized,
         requires short { long ≤ file_limit }
-        requires long { OfFile (F.history files.old) path.now (λ bytes. length bytes ≡ long) }
+        requires file { Now (F.history files.old) (λ w. HasFile path.now long (seen w.disk)) }
         ensures scanned { IfOk result (λ p. OfFile (F.history files.old) path.now (λ bytes. IsScanned form (holds p.1) p.0 bytes)) }
         ensures few { IfOk result (λ p. length p.0.words ≤ (keeps_of DRIVER).words) }
         ensures refused { IfErr result (λ fault. RefusesScan DRIVER form fault (F.history files.old) path.now) }
