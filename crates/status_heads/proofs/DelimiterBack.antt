@@ -1,90 +1,32 @@
 -- The delimiter line that is written is one, with its stamp.
-use Rattle.std.proofs.Common.{◌≡◌, ℕ, ℤ, zero, suc, ◌+◌, ◌-◌, ◌≤◌, ◌/◌, ◌%◌, true, false, cond, List, [], ◌∷◌, ◌++◌, ◌==◌, ◌&&◌, nat_lt, nat_le, length, length-append, drop, get_or, append_assoc, append-nil, codes, Some, None, refl, ap, sym, ◌∙◌, arith}
-use Rattle.std.specs.Char.{digit_char}
+use Rattle.std.proofs.Common.{◌≡◌, ℕ, ℤ, ◌+◌, ◌≤◌, true, false, not, cond, List, [], ◌∷◌, ◌++◌, ◌==◌, ◌&&◌, nat_le, length, length-append, drop, append_assoc, append-nil, codes, Some, None, refl, ap, sym, ◌∙◌, arith}
 use Rattle.std.specs.Cmp.Derive.{both_true}
-use Rattle.std.specs.List.{list_all}
 use Rattle.std.specs.Option.{option_or}
-use Rattle.std.proofs.lemmas.Bool.{and_parts, ne_eqb}
+use Rattle.std.proofs.lemmas.Bool.{ne_eqb}
 use Rattle.std.proofs.lemmas.Bool.Decides.{nat_tests}
 use Rattle.text_lines.specs.Lines.{lines_of, line_text}
 use Rattle.text_lines.proofs.Lines.{no_lines}
 use Rattle.text_lines.proofs.Texts.{is_closed, closed-first}
-use Rattle.mail_fields.specs.CivilDays.{civil_of, day_names, day_text, month_names, month_text, weekday_text}
-use Rattle.mail_fields.specs.Clock.{clock_text}
 use Rattle.mail_fields.specs.DelimiterLine.{date_behind_space, delimiter_stamp, is_one_line, is_short}
 use Rattle.mail_fields.specs.FromDate.{from_date_of, from_date_text}
-use Rattle.mail_fields.specs.Numbers.{digits_in}
 use Rattle.mail_fields.specs.Stamps.{StampParts}
 use Rattle.mail_fields.specs.Texts.{written_at}
 use Rattle.std.proofs.lemmas.List.{drop_all}
 use Rattle.status_heads.specs.Delimiters.{delimiter_text}
+use Rattle.status_heads.proofs.HighBytes.{high-pass, date-high}
 use Rattle.status_heads.proofs.MadeLines.{is_clean, text-of, closed-of}
 use Rattle.status_heads.proofs.WrittenValues.{clean-both}
 
 -- ---- A from date has no byte of a line end
 
-one-of : (names : List (List ℕ)) (k : ℕ) → list_all is_clean names ≡ true → is_clean (get_or names k []) ≡ true
-one-of [] k all = refl
-one-of (name ∷ names) zero all = (and_parts (is_clean name) (list_all is_clean names) all).0
-one-of (name ∷ names) (suc k) all = one-of names k (and_parts (is_clean name) (list_all is_clean names) all).1
-
-byte-clean : (byte : ℕ) → 14 ≤ byte → is_clean (byte ∷ []) ≡ true
+byte-clean : (byte : ℕ) → 14 ≤ byte → (not (byte == 10) && not (byte == 13)) ≡ true
 byte-clean byte high =
     let feed : (byte == 10) ≡ false = ne_eqb byte 10 (λ is. omega (arith, high, is)) in
     let return : (byte == 13) ≡ false = ne_eqb byte 13 (λ is. omega (arith, high, is)) in
     rw (feed, return) refl
 
-digit-clean : (digit : ℕ) → is_clean (digit_char digit ∷ []) ≡ true
-digit-clean digit =
-    let small = byte-clean (48 + digit) (omega arith) in
-    let large = byte-clean (87 + digit) (omega arith) in
-    elim (nat_lt digit 10) as (λ is. is_clean (cond is (48 + digit) (87 + digit) ∷ []) ≡ true) [ true ↦ small | false ↦ large ]
-
-digits-clean : (width number : ℕ) → is_clean (digits_in 10 width number) ≡ true
-digits-clean zero number = refl
-digits-clean (suc width) number =
-    clean-both (digits_in 10 width (number / 10)) (digit_char (number % 10) ∷ []) (digits-clean width (number / 10)) (digit-clean (number % 10))
-
-day-clean : (day : ℕ) → is_clean (day_text day) ≡ true
-unfolding day_text
-day-clean day =
-    let one = digits-clean 1 day in
-    let two = digits-clean 2 day in
-    elim (nat_lt day 10) as (λ is. is_clean (cond is (32 ∷ digits_in 10 1 day) (digits_in 10 2 day)) ≡ true) [ true ↦ one | false ↦ two ]
-
-clock-clean : (second : ℕ) → is_clean (clock_text second) ≡ true
-unfolding clock_text
-clock-clean second =
-    let hours = digits_in 10 2 (second / 3600) in
-    let minutes = digits_in 10 2 (second / 60 % 60) in
-    let colon = codes ":" in
-    let front = clean-both hours colon (digits-clean 2 (second / 3600)) refl in
-    let middle = clean-both (hours ++ colon) minutes front (digits-clean 2 (second / 60 % 60)) in
-    clean-both (hours ++ colon ++ minutes ++ colon) (digits_in 10 2 (second % 60)) (clean-both (hours ++ colon ++ minutes) colon middle refl)
-    (digits-clean 2 (second % 60))
-
-weekday-clean : (day : ℤ) → is_clean (weekday_text day) ≡ true
-unfolding weekday_text
-weekday-clean day = one-of day_names _ refl
-
-month-clean : (month : ℕ) → is_clean (month_text month) ≡ true
-unfolding month_text
-month-clean month = one-of month_names (month - 1) refl
-
 date-clean : (day : ℤ) (second : ℕ) → is_clean (from_date_text day second) ≡ true
-unfolding from_date_text
-date-clean day second =
-    let date = civil_of day in
-    let space = codes " " in
-    let name = weekday_text day in
-    let month = month_text date.month in
-    let number = day_text date.day in
-    let first = clean-both (name ++ space) month (clean-both name space (weekday-clean day) refl) (month-clean date.month) in
-    let second_part = clean-both (name ++ space ++ month ++ space) number (clean-both (name ++ space ++ month) space first refl) (day-clean date.day) in
-    let front = clean-both (name ++ space ++ month ++ space ++ number) space second_part refl in
-    clean-both ((name ++ space ++ month ++ space ++ number ++ space) ++ clock_text second) (space ++ digits_in 10 4 date.year)
-    (clean-both (name ++ space ++ month ++ space ++ number ++ space) (clock_text second) front (clock-clean second))
-    (clean-both space (digits_in 10 4 date.year) refl (digits-clean 4 date.year))
+date-clean day second = high-pass (λ byte. not (byte == 10) && not (byte == 13)) byte-clean (from_date_text day second) (date-high day second)
 
 -- ---- The line
 
@@ -121,6 +63,13 @@ module _ (date : List ℕ) (stamp : StampParts) (long : length date ≡ 24) (cle
       ap (λ is. cond ((true && is) && is_one_line line) found None) short
       ∙ ap (λ is. cond is found None) one
       ∙ ap (λ text. date_behind_space (drop 4 text)) text-is ∙ date-found
+
+-- it is one line
+pub delimiter-closed : (day : ℤ) (second : ℕ) → is_closed (delimiter_text day second) ≡ true
+unfolding delimiter_text
+delimiter-closed day second =
+    let date = from_date_text day second in
+    ap is_closed (sym (append_assoc (codes "From MAILER-DAEMON ") date (10 ∷ []))) ∙ closed-of (codes "From MAILER-DAEMON " ++ date) (clean-both (codes "From MAILER-DAEMON ") date refl (date-clean day second))
 
 pub stamp_back : (day : ℤ) (second : ℕ) (stamp : StampParts) → length (from_date_text day second) ≡ 24 → from_date_of (from_date_text day second) ≡ Some stamp → delimiter_stamp (delimiter_text day second) ≡ Some stamp
 unfolding delimiter_text

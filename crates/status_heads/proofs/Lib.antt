@@ -1,6 +1,7 @@
 pub mod DelimiterBack
 pub mod Examples
 pub mod FirstNames
+pub mod HighBytes
 pub mod Insertions
 pub mod MadeLines
 pub mod Marks

@@ -116,7 +116,7 @@ atoms-solid (byte ∷ rest) all =
     let low = (and_parts (nat_le 33 byte) _ (and_parts (nat_le 33 byte && nat_le byte 126) _ parts.0).0).0 in
     both_true low (atoms-solid rest parts.1)
 
-keyword-solid : (name : List ℕ) → is_keyword name ≡ true → (is_solid name ≡ true) × (0 < length name)
+pub keyword-solid : (name : List ℕ) → is_keyword name ≡ true → (is_solid name ≡ true) × (0 < length name)
 keyword-solid name is =
     let parts = and_parts (nat_le 1 (length name)) _ is in
     (atoms-solid name (and_parts (nat_le (length name) 64) (list_all is_atom name) parts.1).1, grind (arith, nat_tests, parts.0))
