@@ -1,0 +1,13 @@
+pub mod At
+pub mod Finding
+pub mod Leaving
+pub mod OnFile
+pub mod Planned
+pub mod Planning
+pub mod RewriteCode
+pub mod Rewritten
+pub mod ScanCode
+pub mod Scanned
+pub mod Texts
+pub mod WriteCode
+pub mod Written

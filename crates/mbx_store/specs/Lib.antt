@@ -1,0 +1,5 @@
+pub mod Bytes
+pub mod Places
+pub mod Plans
+pub mod Scans
+pub mod Texts
