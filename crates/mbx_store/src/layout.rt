@@ -1,21 +1,21 @@
 // The layout of mbx files.
 ghost use Rattle.std.specs.Prelude.{◌≡◌, ◌≤◌, ◌<◌, ◌+◌, ◌^◌, ◌++◌, ◌==◌, if◌then◌else◌, Some, None, length, refl, IfOk};
 ghost use Rattle.std.specs.List.{AllByRecursion};
+ghost use Rattle.mail_fields.specs.Keyword.{IsKeyword};
 ghost use Rattle.mail_types.specs.declared.driver.Driver.TheVariants.{Mbx};
 ghost use Rattle.mail_types.specs.Drivers.{keeps_of};
+ghost use Rattle.mail_types.specs.Limits.{record_limit};
+ghost use Rattle.store_trait.specs.Changes.{CanChange};
+ghost use Rattle.store_trait.specs.Views.{size_at};
+ghost use Rattle.store_index.specs.Steps.{change_of};
+ghost use Rattle.store_index.specs.Told.{changed_summary};
+ghost use Rattle.store_index.specs.States.{told_as};
 ghost use Rattle.file_store.specs.Forms.{read_form, is_read_form};
 ghost use Rattle.mbx_form.specs.Form.{mbx_form};
 ghost use Rattle.mbx_form.proofs.MbxForm.{mbx_is_form};
-ghost use Rattle.mail_types.specs.Limits.{record_limit};
 ghost use Rattle.mbx_store.specs.Places.{HasPlaces, IsNear};
 ghost use Rattle.mbx_store.specs.Plans.{head_width, infos_size, IsPlan, chosen_places, left_places, added_by};
 ghost use Rattle.mbx_store.specs.Bytes.{SpanEndsBy, places_in};
-ghost use Rattle.store_index.specs.Steps.{change_of};
-ghost use Rattle.store_index.specs.Told.{changed_summary};
-ghost use Rattle.store_trait.specs.Changes.{CanChange};
-ghost use Rattle.mail_fields.specs.Keyword.{IsKeyword};
-ghost use Rattle.store_index.specs.States.{told_as};
-ghost use Rattle.store_trait.specs.Views.{size_at};
 
 use crate::MbxLayout;
 use crate::plan::{Plan, added_by, head_width, plan_step};
