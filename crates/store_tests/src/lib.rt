@@ -1,0 +1,7 @@
+//! Runs of the stores over a host in memory, as tables: what a file is before and after each call, byte for byte.
+#![tactic(auto)]
+
+#[cfg(test)]
+mod calls;
+#[cfg(test)]
+mod mbx;
