@@ -28,6 +28,11 @@ pub(crate) fn opened(alloc: Global, host: &mut BareHost) -> Result<MbxStore, Ope
     <MbxStore as Format<BareHost>>::open(alloc, host, "/m/box", 77)
 }
 
+/// Makes it, with the validity 18.
+pub(crate) fn made(alloc: Global, host: &mut BareHost) -> Result<MbxStore, StoreFault> {
+    <MbxStore as Format<BareHost>>::create(alloc, host, "/m/box", 18)
+}
+
 /// An error that names an answer.
 pub(crate) fn refused(fault: StoreFault) -> Fail {
     Fail::new(format_args!("{fault}"))

@@ -1,5 +1,7 @@
 //! mbx files.
-use crate::calls::{PATH, append, expunge, not_open, opened, read_text, set_flags, told};
+use crate::calls::{
+    PATH, append, expunge, made, not_open, opened, read_text, refused, set_flags, told,
+};
 use bare_host::BareHost;
 use mail_types::Driver;
 use mbx_store::MbxStore;
@@ -128,6 +130,39 @@ const CHANGES: &str = r#"
 fn files_change_by_the_calls(rt: HostRuntime) -> Result<(), Fail> {
     for row in &rows(rt.alloc(), CHANGES)? {
         changes(rt.alloc(), row)?;
+    }
+    Ok(())
+}
+
+const MADE: &str = r#"
++hi => 0000001200000001| 1-Jan-2024 01:02:03 +0200,2;000000000001-00000001\r\nhi
+"#;
+
+// A mailbox that is made, and has a message then.
+fn makes(alloc: Global, row: &Row) -> Result<(), Fail> {
+    let mut host = BareHost::new(alloc);
+    host.put_dir("/m")?;
+    let mut store = match made(alloc, &mut host) {
+        Ok(store) => store,
+        Err(fault) => return Err(refused(fault)),
+    };
+    let empty = file_of(alloc, b"0000001200000000", &[])?;
+    if host.file(PATH) != Some(empty.as_slice()) {
+        return Err(Fail::new("another empty file"));
+    }
+    step(alloc, &mut store, &mut host, row.text.as_slice())?;
+    let (header, records) = cut(row.expected.as_slice());
+    let expected = file_of(alloc, header, records)?;
+    if host.file(PATH) == Some(expected.as_slice()) {
+        return Ok(());
+    }
+    row.agrees(host.file(PATH).unwrap_or(&[]).get(2048..).unwrap_or(&[]))
+}
+
+#[test]
+fn a_file_is_made(rt: HostRuntime) -> Result<(), Fail> {
+    for row in &rows(rt.alloc(), MADE)? {
+        makes(rt.alloc(), row)?;
     }
     Ok(())
 }
