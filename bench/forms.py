@@ -3,8 +3,7 @@
 
 Run as bench/forms.py [FOLDER]. It clones this repository (what is committed) into the folder, adds a program that puts
 its standard input into a form, proves and builds it there with the crates that it stands on, and runs it. A folder that
-is given is kept, so that a later run builds only what changed; with none a temporary one is used. A .rt file may stand
-in crates/ alone, and the gate proves all that stands there; so the program is a text of this script.
+is given is kept, so that a later run builds only what changed; with none a temporary one is used.
 Prints what was measured; it judges nothing."""
 import os
 import pathlib
@@ -12,8 +11,8 @@ import subprocess
 import sys
 import tempfile
 
-TOP = pathlib.Path(__file__).resolve().parent.parent
-NAME = "forms_bench"
+from building import build
+
 MOST = 16 << 20
 ROUNDS = 4
 FORMS = ("keep_lines", "store_lf", "unix_form", "mmdf_form")
@@ -104,26 +103,6 @@ INPUTS = {
 }
 
 
-def build(folder):
-    """The program, proved and built in a clone of this repository."""
-    if (folder / ".git").is_dir():
-        subprocess.run(["git", "-C", folder, "fetch", "-q", TOP, "HEAD"], check=True)
-        subprocess.run(["git", "-C", folder, "checkout", "-q", "-f", "FETCH_HEAD"], check=True)
-    else:
-        subprocess.run(["git", "clone", "-q", TOP, folder], check=True)
-    crate = folder / "crates" / NAME
-    (crate / "src").mkdir(parents=True, exist_ok=True)
-    (crate / "src/main.rt").write_text(PROGRAM)
-    with (folder / "crates.txt").open("a") as crates:
-        crates.write(f"{NAME}: text_forms\n")
-    done = subprocess.run(
-        ["rt", "run", "--", "keep_lines", "1"], cwd=crate, stdin=subprocess.DEVNULL, stdout=subprocess.PIPE, text=True
-    )
-    if done.returncode != 0:
-        sys.exit(f"{done.stdout}bench: the program was not built")
-    return crate / "out" / NAME
-
-
 def timed(program, path, form, rounds):
     """One run: processor seconds, peak memory in MB, and the length that it printed."""
     words = [program, form, str(rounds)]
@@ -137,7 +116,8 @@ def timed(program, path, form, rounds):
 
 def main():
     with tempfile.TemporaryDirectory() as scratch:
-        program = build(pathlib.Path(sys.argv[1] if len(sys.argv) > 1 else scratch + "/clone").resolve())
+        folder = pathlib.Path(sys.argv[1] if len(sys.argv) > 1 else scratch + "/clone").resolve()
+        program = build(folder, "forms_bench", "text_forms", PROGRAM, ["keep_lines", "1"])
         path = pathlib.Path(scratch) / "text"
         for name, blocks in INPUTS.items():
             with path.open("wb") as out:

@@ -3,8 +3,7 @@
 
 Run as bench/units.py [FOLDER]. It clones this repository (what is committed) into the folder, adds a program that feeds
 its standard input, proves and builds it there with the crates that it stands on, and runs it. A folder that is given is
-kept, so that a later run builds only what changed; with none a temporary one is used. A .rt file may stand in crates/
-alone, and the gate proves all that stands there; so the program is a text of this script.
+kept, so that a later run builds only what changed; with none a temporary one is used.
 Prints what was measured; it judges nothing."""
 import array
 import fcntl
@@ -16,8 +15,8 @@ import tempfile
 import termios
 import time
 
-TOP = pathlib.Path(__file__).resolve().parent.parent
-NAME = "units_bench"
+from building import build
+
 MOST = 64 << 20
 PIECES = (65_536, 100, 1)
 
@@ -157,24 +156,6 @@ INPUTS = {
 }
 
 
-def build(folder):
-    """The program, proved and built in a clone of this repository."""
-    if (folder / ".git").is_dir():
-        subprocess.run(["git", "-C", folder, "fetch", "-q", TOP, "HEAD"], check=True)
-        subprocess.run(["git", "-C", folder, "checkout", "-q", "-f", "FETCH_HEAD"], check=True)
-    else:
-        subprocess.run(["git", "clone", "-q", TOP, folder], check=True)
-    crate = folder / "crates" / NAME
-    (crate / "src").mkdir(parents=True, exist_ok=True)
-    (crate / "src/main.rt").write_text(PROGRAM)
-    with (folder / "crates.txt").open("a") as crates:
-        crates.write(f"{NAME}: imap_grammar\n")
-    done = subprocess.run(["rt", "run", "--", "1"], cwd=crate, stdin=subprocess.DEVNULL, stdout=subprocess.PIPE, text=True)
-    if done.returncode != 0:
-        sys.exit(f"{done.stdout}bench: the program was not built")
-    return crate / "out" / NAME
-
-
 def timed(program, path, size):
     """One run: processor seconds, and what it printed."""
     with path.open("rb") as bytes_in, subprocess.Popen([program, str(size)], stdin=bytes_in, stdout=subprocess.PIPE) as process:
@@ -209,7 +190,8 @@ def peak_of(program, blocks, size):
 
 def main():
     with tempfile.TemporaryDirectory() as scratch:
-        program = build(pathlib.Path(sys.argv[1] if len(sys.argv) > 1 else scratch + "/clone").resolve())
+        folder = pathlib.Path(sys.argv[1] if len(sys.argv) > 1 else scratch + "/clone").resolve()
+        program = build(folder, "units_bench", "imap_grammar", PROGRAM, ["1"])
         path = pathlib.Path(scratch) / "bytes"
         for name, (blocks, units) in INPUTS.items():
             with path.open("wb") as out:
