@@ -48,7 +48,8 @@ unfolding clamped
 clamped_zone p is = elim (int_lt p.day (negsuc 719527)) as (λ a. (cond a first_stamp (cond (int_lt (pos 2932896) p.day) last_stamp p)).zone_minutes ≡ pos 0)
     [ true ↦ refl | false ↦ elim (int_lt (pos 2932896) p.day) as (λ b. (cond b last_stamp p).zone_minutes ≡ pos 0) [ true ↦ refl | false ↦ is ] ]
 
-utc_zone : (p : StampParts) → (utc p).zone_minutes ≡ pos 0
+-- its zone is UTC
+pub utc_zone : (p : StampParts) → (utc p).zone_minutes ≡ pos 0
 unfolding utc
 utc_zone p = clamped_zone _ refl
 

@@ -130,7 +130,7 @@ module _ (text : List ℕ) (made : List (List ℕ)) (each : Each IsMade made) (h
       ap (before_first is_empty_line) parts.3.whole ∙ header-before front behind (each-free front parts.3.free)
       ∙ ap (λ l. front ++ l) (header-end parts.1 parts.2 parts.3.empty) ∙ append-nil front
 
-  with-is : with_fields (concat made) text ≡ concat (front ++ (made ++ behind))
+  pub with-is : with_fields (concat made) text ≡ concat (front ++ (made ++ behind))
   unfolding with_fields
   with-is =
       ap (λ header. concat header ++ (concat made ++ drop (length (concat header)) text)) header-is
@@ -139,7 +139,8 @@ module _ (text : List ℕ) (made : List (List ℕ)) (each : Each IsMade made) (h
       ∙ ap (λ t. concat front ++ t) (sym (concat-append made behind))
       ∙ sym (concat-append front (made ++ behind))
 
-  lines-are : lines_of (with_fields (concat made) text) ≡ front ++ (made ++ behind)
+  -- its lines
+  pub lines-are : lines_of (with_fields (concat made) text) ≡ front ++ (made ++ behind)
   lines-are =
       ap lines_of with-is
       ∙ lines-joined (front ++ (made ++ behind))

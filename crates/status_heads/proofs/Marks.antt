@@ -67,7 +67,7 @@ joined-last (mark ∷ marks) (first ∷ names) words name same =
     ap (λ rest. (mark || list_any (same_keyword first) words) ∷ rest) (joined-last marks names words name (omega (arith, same)))
 
 -- a word that none of some names is
-others : (names words : List (List ℕ)) (word : List ℕ) → list_any (λ each. same_keyword each word) names ≡ false → marks_of names (word ∷ words) ≡ marks_of names words
+pub others : (names words : List (List ℕ)) (word : List ℕ) → list_any (λ each. same_keyword each word) names ≡ false → marks_of names (word ∷ words) ≡ marks_of names words
 others [] words word none = refl
 others (name ∷ names) words word none =
     let parts = or_parts (same_keyword name word) (list_any (λ each. same_keyword each word) names) none in

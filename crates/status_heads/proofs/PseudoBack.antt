@@ -73,7 +73,7 @@ with-all front (name ∷ names) few distinct all =
     ∙ joined
 
 -- the numbers and the names of a base, as words
-abbrev words : Base → List (List ℕ)
+abbrev pub words : Base → List (List ℕ)
 words base = ten_digits base.validity ∷ ten_digits base.last ∷ base.words
 
 grouped : (validity last rest : List ℕ) → validity ++ 32 ∷ [] ++ last ++ rest ≡ validity ++ ((32 ∷ last) ++ rest)
@@ -86,23 +86,23 @@ value-is base = grouped (ten_digits base.validity) (ten_digits base.last) (space
 imap-name : IsReservedName (codes "X-IMAP")
 imap-name = record { begins = λ tail. refl; named = λ tail. refl; behind = λ tail. refl; reserved = λ tail. refl; first = λ tail. refl; filled = λ tail. refl; closed = λ tail is. is }
 
-abbrev from_line : List ℕ
+abbrev pub from_line : List ℕ
 from_line = codes "From: Mail System Internal Data <MAILER-DAEMON@localhost>\n"
 
-abbrev subject_line : List ℕ
+abbrev pub subject_line : List ℕ
 subject_line = codes "Subject: DON'T DELETE THIS MESSAGE -- FOLDER INTERNAL DATA\n"
 
-abbrev status_line : List ℕ
+abbrev pub status_line : List ℕ
 status_line = codes "Status: RO\n"
 
-abbrev body : List (List ℕ)
+abbrev pub body : List (List ℕ)
 body = (10 ∷ []) ∷ codes "This text is part of the internal format of your mail folder.\n" ∷ []
 
 status-made : IsMade status_line
 status-made = record { is = record { closed = refl; filled = refl }; reserved = refl; first = refl }
 
 -- the lines of the header, with a value of the field X-IMAP
-abbrev header : List ℕ → List (List ℕ)
+abbrev pub header : List ℕ → List (List ℕ)
 header value = from_line ∷ subject_line ∷ field_line (codes "X-IMAP") value ∷ status_line ∷ []
 
 message-lines : (value : List ℕ)
@@ -115,7 +115,7 @@ message-lines value =
     append_assoc front value (10 ∷ rest) ∙ ap (λ text. front ++ text) (sym (append_assoc value (10 ∷ []) rest))
 
 module _ (value : List ℕ) (clean : is_clean value ≡ true) where
-  filled : Each IsFilled (header value)
+  pub filled : Each IsFilled (header value)
   filled = (record { closed = refl; filled = refl }, (record { closed = refl; filled = refl }, ((made-line (codes "X-IMAP") value imap-name clean).is, (status-made.is, tt))))
 
   are : AreLines body
@@ -133,7 +133,8 @@ module _ (value : List ℕ) (clean : is_clean value ≡ true) where
 
 module _ (base : Base) (some : base.validity ≢ 0) (fits : base.validity < 2 ^ 32) (last : base.last ≤ greatest_uid) (few : length base.words ≤ 30)
     (distinct : are_distinct base.words ≡ true) (all : list_all is_keyword base.words ≡ true) where
-  every : list_all is_keyword (words base) ≡ true
+  -- all of them could be names
+  pub every : list_all is_keyword (words base) ≡ true
   every = both_true (digits-keyword base.validity (omega (arith, fits))) (both_true (digits-keyword base.last (omega (arith, last))) all)
 
   words-base : base_of_words (words base) ≡ Some base
@@ -145,7 +146,7 @@ module _ (base : Base) (some : base.validity ≢ 0) (fits : base.validity < 2 ^ 
         with-all [] base.words few distinct all,
       ) refl
 
-  message-is : pseudo_message base ≡ concat (header (names_text (words base)) ++ body)
+  pub message-is : pseudo_message base ≡ concat (header (names_text (words base)) ++ body)
   unfolding pseudo_message
   message-is = ap (λ value. codes "From: Mail System Internal Data <MAILER-DAEMON@localhost>\nSubject: DON'T DELETE THIS MESSAGE -- FOLDER INTERNAL DATA\nX-IMAP: " ++ value ++ codes "\nStatus: RO\n\nThis text is part of the internal format of your mail folder.\n") (value-is base) ∙ message-lines (names_text (words base))
 
@@ -156,3 +157,9 @@ module _ (base : Base) (some : base.validity ≢ 0) (fits : base.validity < 2 ^ 
       ap (λ lines. base_of_words (words_of (value_named (codes "X-IMAP") (readings_of lines)))) (header-is value clean (pseudo_message base) message-is)
       ∙ ap (λ found. base_of_words (words_of found)) (field-found value clean ∙ names-unfolded (ten_digits base.validity) (ten_digits base.last ∷ base.words) every)
       ∙ ap base_of_words (words-again (words base) every) ∙ words-base
+
+  -- its lines: the header, an empty line and one line of text
+  pub message_lines : lines_of (pseudo_message base) ≡ header (names_text (words base)) ++ body
+  message_lines =
+      let value = names_text (words base) in
+      ap lines_of message-is ∙ lines-joined (header value ++ body) (lines-before (header value) body (filled value (names-clean (words base) every)) (are value (names-clean (words base) every)))

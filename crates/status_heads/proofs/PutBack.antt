@@ -1,5 +1,5 @@
 -- The status fields of heads, read back.
-use Rattle.std.proofs.Common.{◌≡◌, ℕ, ◌≤◌, Bool, true, false, cond, List, [], ◌∷◌, ◌++◌, ◌==◌, nat_le, length, append-nil, codes, Option, Some, None, IfSome, refl, ap, sym, ◌∙◌, arith}
+use Rattle.std.proofs.Common.{◌≡◌, ℕ, ◌≤◌, Bool, true, false, cond, List, [], ◌∷◌, ◌++◌, ◌==◌, nat_le, length, append-nil, codes, Option, Some, None, IfSome, refl, ap, sym, subst, ◌∙◌, arith}
 use Rattle.std.specs.List.{concat, list_all}
 use Rattle.std.specs.Fmt.{decimal}
 use Rattle.std.proofs.lemmas.Bool.Decides.{nat_tests}
@@ -205,6 +205,10 @@ module _ (heads : Heads) (all : list_all is_keyword heads.words ≡ true) (low :
       ∙ value-passed s (codes "X-Status") (32 ∷ b) third_field (length b == 0) refl
       ∙ value-passed s (codes "X-Keywords") (32 ∷ c) last_field (length c == 0) refl
       ∙ value-found s d [] refl d-back.1 refl
+
+  -- each line of the status fields begins one of them
+  pub head_lines_made : Each IsMade (head_lines heads)
+  head_lines_made = subst (Each IsMade) (sym lines-are) every-made
 
   module _ (before : List (List ℕ)) (free : Each IsFree before) where
     found : (name value : List ℕ) → Reserves name → value_named name every_field ≡ value → value_named name (readings_of (before ++ every)) ≡ value

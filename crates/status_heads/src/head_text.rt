@@ -29,8 +29,9 @@ pub fn put_heads(alloc: Global, heads: &Heads) -> Result<Vec<u8>, AllocError>
     fields_bytes(alloc, heads)
 }
 
+/// The same of any heads, also of those that can't be read again: a UID may be 0 or the greatest number.
 #[tactic(auto, unfolding(crate::specs::HeadTexts::head_lines))]
-fn fields_bytes(alloc: Global, heads: &Heads) -> Result<Vec<u8>, AllocError>
+pub fn fields_bytes(alloc: Global, heads: &Heads) -> Result<Vec<u8>, AllocError>
     ensures text { IfOk result (λ v. v.items ≡ heads_text heads.now) }
     ensures keywords { IfOk result (λ _. list_all is_keyword heads.now.words ≡ true) }
 {

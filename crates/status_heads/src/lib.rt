@@ -16,7 +16,7 @@ mod value;
 
 pub use base::{Base, read_base};
 pub use delimiter::put_delimiter;
-pub use head_text::put_heads;
+pub use head_text::{fields_bytes, put_heads};
 pub use heads::{Heads, read_heads};
 pub use numbered::{NumberedHeads, read_numbered_heads};
-pub use pseudo::put_pseudo;
+pub use pseudo::{pseudo_bytes, put_pseudo};

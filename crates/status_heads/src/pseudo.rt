@@ -37,6 +37,17 @@ pub fn put_pseudo(alloc: Global, base: &Base) -> Result<Vec<u8>, AllocError>
     ensures stamp { IfOk result (λ _. delimiter_stamp pseudo_line ≡ Some (record { day = pos 0; second = 0; zone_minutes = pos 0 })) }
     ensures read { IfOk result (λ _. base_of (pseudo_message base.now) (codes "X-IMAP") ≡ Some base.now) }
 {
+    let text = pseudo_bytes(alloc, base)?;
+    Ok(text)
+}
+
+/// The same of any base, also of one that can't be read again.
+#[tactic(auto, unfolding(crate::specs::PseudoTexts::pseudo_message))]
+pub fn pseudo_bytes(alloc: Global, base: &Base) -> Result<Vec<u8>, AllocError>
+    ensures text { IfOk result (λ v. v.items ≡ pseudo_text base.now) }
+    ensures keywords { IfOk result (λ _. list_all is_keyword base.now.words ≡ true) }
+    ensures fits { IfOk result (λ _. base.now.validity < 2 ^ 32) }
+{
     let mut text = Vec::from_slice(alloc, DELIMITER)?;
     text.extend_from_slice(HEADER)?;
     put_base(&mut text, base)?;

@@ -29,7 +29,7 @@ pub settled-lines : (lines : List (List ℕ)) → AreSettled lines → AreLines 
 settled-lines [] are = tt
 settled-lines (line ∷ lines) are = inl (are.0.one, settled-lines lines are.1)
 
-settled-kept : (lines : List (List ℕ)) → AreSettled lines → map kept_line lines ≡ lines
+pub settled-kept : (lines : List (List ℕ)) → AreSettled lines → map kept_line lines ≡ lines
 settled-kept [] are = refl
 settled-kept (line ∷ lines) are = ap (λ l. l ∷ map kept_line lines) are.0.kept ∙ ap (λ l. line ∷ l) (settled-kept lines are.1)
 

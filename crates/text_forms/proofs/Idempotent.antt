@@ -47,14 +47,15 @@ module _ (test : List ℕ → Bool) (mark : ℕ) (is : IsMark test mark) where
       ap quoted stays ∙ quoted-twice (headed_form text)
 
 -- an empty line begins with CR or LF
-first-of-empty : (P : List ℕ → Type 0) → ((rest : List ℕ) → P (10 ∷ rest)) → ((rest : List ℕ) → P (13 ∷ rest)) → (line : List ℕ) → is_line_end line ≡ true → P line
+pub first-of-empty : (P : List ℕ → Type 0) → ((rest : List ℕ) → P (10 ∷ rest)) → ((rest : List ℕ) → P (13 ∷ rest)) → (line : List ℕ) → is_line_end line ≡ true → P line
 first-of-empty P feed return [] is = absurd (false≢true is)
 first-of-empty P feed return (byte ∷ []) is = subst (λ b. P (b ∷ [])) (sym (eqb-true byte 10 is)) (feed [])
 first-of-empty P feed return (byte ∷ next ∷ rest) is =
     let first = (and_parts (byte == 13) (is_line_end (next ∷ rest)) is).0 in
     subst (λ b. P (b ∷ next ∷ rest)) (sym (eqb-true byte 13 first)) (return (next ∷ rest))
 
-from-mark : IsMark is_delimiter_line 62
+-- the mark of a delimiter line
+pub from-mark : IsMark is_delimiter_line 62
 unfolding delimiter_stamp
 from-mark = record {
   no_feed = refl;

@@ -1,9 +1,12 @@
 pub mod Borders
 pub mod Changing
+pub mod CleanLines
 pub mod Headed
 pub mod Idempotent
 pub mod LineEnds
 pub mod LineForms
+pub mod OtherEnds
 pub mod ReservedFields
 pub mod Stored
+pub mod UnixTexts
 pub mod WholeLines

@@ -27,7 +27,7 @@ one-end (x ∷ next ∷ rest) (y ∷ other ∷ more) is too same =
     ∙ ap (λ tail. y ∷ tail) (one-end (next ∷ rest) (other ∷ more) first.1 second.1 (omega (arith, same)))
 
 -- the line end of a line that has one
-end-of-line : (line : List ℕ) → 0 < length (line_end_of line) → is_line_end (line_end_of line) ≡ true
+pub end-of-line : (line : List ℕ) → 0 < length (line_end_of line) → is_line_end (line_end_of line) ≡ true
 end-of-line [] some = absurd (omega arith)
 end-of-line (byte ∷ rest) some = ⊎_elim
     (λ whole. ap is_line_end (cond-true (is_line_end (byte ∷ rest)) (byte ∷ rest) (line_end_of rest) whole) ∙ whole)
@@ -104,7 +104,8 @@ open-end (byte ∷ rest) is =
 pub open-not-ended : (line : List ℕ) → is_open line ≡ true → is_ended line ≡ false
 open-not-ended line is = ap (λ end. nat_lt 0 (length end)) (open-end line is)
 
-closed-end : (line : List ℕ) → is_closed line ≡ true → 0 < length (line_end_of line)
+-- a closed line has a line end
+pub closed-end : (line : List ℕ) → is_closed line ≡ true → 0 < length (line_end_of line)
 closed-end [] closed = absurd (false≢true closed)
 closed-end (byte ∷ rest) closed = ⊎_elim
     (λ whole.
@@ -137,7 +138,7 @@ module _ (end : List ℕ) (is : is_line_end end ≡ true) where
       some-of (byte ∷ front) line h = omega arith
 
   -- the text with another end is a line end where the line is one
-  end-same : (line : List ℕ) → is_closed line ≡ true → is_line_end (line_text line ++ end) ≡ is_line_end line
+  pub end-same : (line : List ℕ) → is_closed line ≡ true → is_line_end (line_text line ++ end) ≡ is_line_end line
   end-same [] closed = absurd (false≢true closed)
   end-same (byte ∷ rest) closed = ⊎_elim
       (λ whole.
@@ -153,7 +154,7 @@ module _ (end : List ℕ) (is : is_line_end end ≡ true) where
       (cases_Bool (is_line_end (byte ∷ rest)))
 
   -- another line end leaves the text of a line
-  text-same : (line : List ℕ) → is_closed line ≡ true → line_text (line_text line ++ end) ≡ line_text line
+  pub text-same : (line : List ℕ) → is_closed line ≡ true → line_text (line_text line ++ end) ≡ line_text line
   text-same [] closed = absurd (false≢true closed)
   text-same (byte ∷ rest) closed = ⊎_elim
       (λ whole.

@@ -1,0 +1,12 @@
+pub mod Again
+pub mod CleanMessages
+pub mod Cuts
+pub mod Examples
+pub mod Found
+pub mod FoundBase
+pub mod NoNul
+pub mod Stamps
+pub mod UnixForm
+pub mod WordNumbers
+pub mod Written
+pub mod WrittenFile

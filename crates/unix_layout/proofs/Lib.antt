@@ -1,0 +1,14 @@
+pub mod Fields
+pub mod FilesFound
+pub mod FoundMessages
+pub mod Fronts
+pub mod Messages
+pub mod Names
+pub mod NewFiles
+pub mod Places
+pub mod Runs
+pub mod Scanning
+pub mod ScansFound
+pub mod ShownTexts
+pub mod Stamps
+pub mod WholeFiles
