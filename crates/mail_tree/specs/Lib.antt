@@ -1,0 +1,10 @@
+pub mod Agreement
+pub mod Changes
+pub mod Listing
+pub mod Making
+pub mod Matching
+pub mod Names
+pub mod Promises
+pub mod Sights
+pub mod Subscriptions
+pub mod Trees
