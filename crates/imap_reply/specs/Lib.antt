@@ -1,0 +1,4 @@
+pub mod Appends
+pub mod Replies
+pub mod Sinks
+pub mod Texts
