@@ -19,6 +19,7 @@ use Rattle.file_model.proofs.Leaving.{ended_ran, ended_with, ended_reaches}
 use Rattle.file_model.proofs.Runs.{ran_none, ran_then, ended_call, now_both}
 use Rattle.file_model.proofs.Passes.{ran_passed, ran_arrived, arrived_with}
 use Rattle.session_loop.specs.Instants.{Answering, HasAnswered, Opened}
+use Rattle.session_loop.proofs.Saying.{first_none}
 use Rattle.imapd_core.specs.Replies.{State, StandsFor, IsAlike, protocol}
 use Rattle.imapd_core.specs.Server.{inbox_of, is_word, first_node, first_state, IsMade}
 
@@ -205,11 +206,11 @@ opening_passed root path state old new is now run =
       turns = ap (λ t. t.turns) quiet;
       part = [];
       is_said = ap (λ t. t.said) quiet ∙ sym (append-nil a.streams.said);
-      is_part = record { rest = []; is_whole = refl };
+      is_part = first_none protocol.says [];
       crash = λ same image left. record {
         done = [];
         are_done = record { rest = []; is_whole = refl };
-        are_said = record { rest = []; is_whole = refl };
+        are_said = first_none protocol.says [];
         agreed = (left_state root path state a.disk w.disk is first here).each image left;
       };
     }) old new now run
@@ -227,6 +228,8 @@ opening_opened root path state old new is now run ended = record {
         heard = ap (λ t. t.heard) here.0;
         ended = ap (λ t. t.ended) here.0;
         turns = ap (λ t. t.turns) here.0;
+        bytes = [];
+        are_said = refl;
         said = ap (λ t. t.said) here.0 ∙ sym (append-nil a.streams.said);
         is_state = subst (λ s. StandsFor (inbox_of root) b.disk s) (sym first) (subst (λ p. IsMade p a.disk b.disk → StandsFor (inbox_of root) b.disk (first_state root a.disk)) (sym is) (λ made. (refl, record { inbox = made.inbox; elsewhere = made.elsewhere })) here.1);
         still_alike = λ same. alike_state root path state a.disk b.disk is first here.1;

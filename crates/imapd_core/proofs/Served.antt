@@ -21,16 +21,16 @@ use Rattle.session_loop.proofs.Headline.{said_since_each, bounded_since, crash_s
 use Rattle.command_lines.proofs.Streams.{units_first}
 use Rattle.imapd_core.specs.declared.server.Status.TheVariants.{Long as Status-Long}
 use Rattle.imapd_core.specs.Replies.{State, StandsFor, IsAlike, Agrees, greeting, step, ends, protocol}
-use Rattle.imapd_core.specs.Laws.{is_kept, says_something}
+use Rattle.imapd_core.specs.Laws.{is_kept, says_something, greeting_is_said}
 use Rattle.imapd_core.specs.Server.{inbox_of, first_state}
 use Rattle.imapd_core.specs.Statuses.{status_of_end, WasServed, IsServedAs, regular_status}
 
 -- ---- At the call's start
 
 -- each state has the one greeting
-pub greets : (path : List ℕ) (h : History) → Now h (λ w. (state : State) → StandsFor path w.disk state → greeting ≡ protocol.greeting state)
+pub greets : (path : List ℕ) (h : History) → Now h (λ w. (state : State) → StandsFor path w.disk state → protocol.says (protocol.greeting state) greeting)
 greets path [] = tt
-greets path (world ∷ past) = λ state stands. refl
+greets path (world ∷ past) = λ state stands. (refl, greeting_is_said)
 
 -- what holds for the state that the start gives
 pub at_first : (root : List ℕ) (P : State → World → Type 0) (old : History)

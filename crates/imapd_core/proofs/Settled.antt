@@ -61,6 +61,8 @@ opened_here path state (w ∷ past) now = record {
     heard = refl;
     ended = refl;
     turns = refl;
+    bytes = [];
+    are_said = refl;
     said = sym (append-nil w.streams.said);
     is_state = subst (λ s. StandsFor path w.disk s) (sym now) (refl, record { inbox = refl; elsewhere = record { each = λ q apart. refl } });
     still_alike = λ same. same;

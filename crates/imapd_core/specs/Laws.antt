@@ -1,5 +1,6 @@
 -- What holds of every state, disk and line: the laws that the loop asks of a session.
 use Rattle.std.specs.Prelude.{◌≡◌, ℕ, List, [], ◌∷◌, ◌++◌, ◌≢◌, refl, codes, decimal}
+use Rattle.std.proofs.Common.{sym, ◌∙◌, subst}
 use Rattle.file_model.specs.Images.{Node}
 use Rattle.command_lines.specs.Stream.{units_of, unfinished}
 use Rattle.session_loop.specs.Machine.{IsKept, SaysSomething}
@@ -8,7 +9,7 @@ use Rattle.unix_store.specs.declared.mailbox.Counted.TheVariants.{Messages, IllF
 use Rattle.imapd_core.specs.declared.line.Command.{Command}
 use Rattle.imapd_core.specs.declared.line.Command.TheVariants.{Status, Logout, Other}
 use Rattle.imapd_core.specs.Lines.{command_of, tag_of}
-use Rattle.imapd_core.specs.Replies.{protocol, counted_at, status_reply, reply_of}
+use Rattle.imapd_core.specs.Replies.{State, protocol, greeting, counted_at, status_reply, reply_of, reply_to}
 
 -- what every crash leaves, each image has
 pub is_kept : IsKept protocol
@@ -35,6 +36,19 @@ reply_says Status tag node = status_says tag (counted_at node)
 reply_says Logout tag node = longer (codes "* BYE bye\r\n" ++ tag) (codes " OK LOGOUT done\r\n") (byte_there 32 (codes "OK LOGOUT done\r\n"))
 reply_says Other tag node = longer tag (codes " BAD not built\r\n") (byte_there 32 (codes "BAD not built\r\n"))
 
--- every reply has a byte
+pub reply_is_said : (state : State) (line : List ℕ) → reply_to state line ≢ []
+reply_is_said state line = reply_says (command_of line) (tag_of line) state.node
+
+pub greeting_is_said : greeting ≢ []
+greeting_is_said = byte_there 42 (codes " PREAUTH [CAPABILITY IMAP4rev1] ready\r\n")
+
+one_line : (line : List ℕ) → line ∷ [] ≢ []
+one_line line is = absurd (cc)
+
+-- every reply has a line, and every line a byte
 pub says_something : SaysSomething protocol
-says_something state line = reply_says (command_of line) (tag_of line) state.node
+says_something = record {
+  line = λ state line. one_line (reply_to state line);
+  byte = λ line bytes says. subst (λ l. l ≢ []) (sym says.0) says.1;
+  one = λ line bytes other says again. says.0 ∙ sym again.0;
+}

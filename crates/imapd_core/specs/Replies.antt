@@ -1,5 +1,5 @@
 -- The replies, on whole texts: what stands at INBOX, and a line.
-use Rattle.std.specs.Prelude.{ℕ, Bool, true, false, List, ◌++◌, ◌≡◌, ◌≢◌, nat_le, length, codes, decimal}
+use Rattle.std.specs.Prelude.{ℕ, Bool, true, false, List, [], ◌∷◌, ◌++◌, ◌≡◌, ◌≢◌, nat_le, length, codes, decimal}
 use Rattle.file_model.specs.Images.{Image, Node, nothing, file, directory, node_at}
 use Rattle.file_model.specs.Disk.{Disk, seen}
 use Rattle.file_model.specs.Kept.{Sees, IsLeftOrMade, MayMake, NonePending}
@@ -42,9 +42,13 @@ pub record State : Type 0 where
   pub node : Node
   pub first : Disk
 
+-- the reply to a line
+abbrev pub reply_to : State → List ℕ → List ℕ
+reply_to state line = reply_of (command_of line) (tag_of line) state.node
+
 -- one line: no state changes yet
-abbrev pub step : State → List ℕ → Answered State
-step state line = record { next = state; reply = reply_of (command_of line) (tag_of line) state.node }
+abbrev pub step : State → List ℕ → Answered State (List ℕ)
+step state line = record { next = state; reply = reply_to state line ∷ [] }
 
 abbrev pub ends : List ℕ → Bool
 ends line = is_logout (command_of line)
@@ -69,11 +73,13 @@ Agrees state image = IsLeftOrMade state.inbox state.first image
 abbrev pub greeting : List ℕ
 greeting = codes "* PREAUTH [CAPABILITY IMAP4rev1] ready\r\n"
 
--- the session as a machine over the lines of the client
+-- the session as a machine over the lines of the client; a reply is its bytes, of which there is one
 abbrev pub protocol : Protocol State (List ℕ)
 protocol = record {
   units_of = units_of;
   unfinished = unfinished;
+  Line = List ℕ;
+  says = λ reply bytes. (bytes ≡ reply) × (reply ≢ []);
   greeting = λ state. greeting;
   step = step;
   is_last = ends;

@@ -5,7 +5,7 @@ ghost use Rattle.file_model.specs.Disk.{seen};
 ghost use Rattle.file_model.specs.Histories.{Now, Passed};
 ghost use Rattle.file_model.specs.Arrived.{Arrived, IsSaying, HasSaid};
 ghost use Rattle.session_loop.specs.Outcome.{UnitCause, next_of};
-ghost use Rattle.imapd_core.specs.Replies.{State, StandsFor, step, protocol, counted_at, status_reply};
+ghost use Rattle.imapd_core.specs.Replies.{State, StandsFor, reply_to, protocol, counted_at, status_reply};
 ghost use Rattle.imapd_core.specs.Laws.{of_grammar, is_kept};
 ghost use Rattle.imapd_core.specs.Lines.{is_logout};
 
@@ -77,7 +77,7 @@ fn answer<F: Files>(
 ) -> Result<Vec<u8>, Stop>
     ensures same { F.history files.new ≡ F.history files.old }
     ensures reply { (state : State) → Now (F.history files.old) (λ w. StandsFor path.now w.disk state)
-        → IfOk result (λ reply. Now (F.history files.old) (λ w. reply.items ≡ (step state line.now).reply)) }
+        → IfOk result (λ reply. Now (F.history files.old) (λ w. reply.items ≡ reply_to state line.now)) }
     ensures cause { UnitCause (F.faults files.old) (F.faults files.new) result }
 {
     let tag = reply_tag(line);

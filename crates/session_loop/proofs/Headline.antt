@@ -1,5 +1,5 @@
 -- The instants of a session, in the words of the headline.
-use Rattle.std.proofs.Common.{ℕ, Bool, true, false, ◌||◌, List, [], ◌∷◌, ◌++◌, ◌≡◌, ◌≢◌, ◌≤◌, ◌<◌, ◌+◌, ◌-◌, ◌⊎◌, inl, inr, ⊎_elim, refl, sym, ◌∙◌, ap, subst, length, take, drop, zero, suc, arith, length-append}
+use Rattle.std.proofs.Common.{ℕ, Bool, true, false, ◌||◌, List, [], ◌∷◌, ◌++◌, ◌≡◌, ◌≢◌, ◌≤◌, ◌<◌, ◌+◌, ◌-◌, ◌⊎◌, inl, inr, ⊎_elim, refl, sym, ◌∙◌, ap, subst, length, take, drop, zero, suc, arith, length-append, append_assoc}
 use Rattle.std.proofs.lemmas.Bool.{cases_lt}
 use Rattle.std.proofs.Math.Seq.{drop-append_seam, take-append_seam, take-append-add}
 use Rattle.std.proofs.lemmas.Grind.{common_steps}
@@ -12,9 +12,11 @@ use Rattle.file_model.specs.Arrived.{Arrived, Begins, worlds_since, heard_since,
 use Rattle.session_loop.specs.declared.end.End.{End}
 use Rattle.session_loop.specs.Outcome.{regular_end, IsLong}
 use Rattle.session_loop.specs.Machine.{Answered, Protocol, IsKept, SaysSomething, replies, state_after, answered, commands_in, is_over}
+use Rattle.session_loop.specs.Saying.{AllSaid, FirstSaid, lines_to}
 use Rattle.session_loop.specs.Instants.{IsTurn, EachHears, Serving, HasServed, EndsAs, most_heard}
 use Rattle.session_loop.specs.Headline.{commands, SaysReplies, IsBounded, IsServed, Survives}
 use Rattle.session_loop.proofs.Machine.{begins_trans, replies_append}
+use Rattle.session_loop.proofs.Saying.{all_longer, first_none}
 use Rattle.session_loop.proofs.Instants.{opening_instant}
 use Rattle.file_model.proofs.Passes.{arrived_weaker, each_since}
 use Rattle.std.specs.List.{Contains}
@@ -31,19 +33,18 @@ over n m k is = omega arith
 -- as a `hear` began, what was said were the replies to all that was heard, and the session went on
 abbrev IsAtOnce : {S U : Type 0} → Protocol S U → S → World → List ℕ → List ℕ → ℕ × ℕ → Type 0
 IsAtOnce p state start heard said turn =
-    (take (turn.1 - length start.streams.said) said ≡ p.greeting state ++ replies p.step state (commands_in p (take (turn.0 - length start.streams.heard) heard)))
+    AllSaid p.says (lines_to p state (commands_in p (take (turn.0 - length start.streams.heard) heard))) (take (turn.1 - length start.streams.said) said)
     × (is_over p (take (turn.0 - length start.streams.heard) heard) ≡ false)
 
 turn_plain : {S U : Type 0} (p : Protocol S U) (state : S) (start : World) (heard said : List ℕ) (turn : ℕ × ℕ)
-    → IsTurn p state start heard said turn
-    → (take (turn.1 - length start.streams.said) said ≡ p.greeting state ++ replies p.step state (commands_in p (take (turn.0 - length start.streams.heard) heard)))
-    × (is_over p (take (turn.0 - length start.streams.heard) heard) ≡ false)
+    → IsTurn p state start heard said turn → IsAtOnce p state start heard said turn
 turn_plain p state start heard said turn is =
-    let then = p.greeting state ++ replies p.step state (commands_in p is.heard_then) in
+    let then = is.said_then in
     let h : turn.0 - length start.streams.heard ≡ length is.heard_then = over turn.0 (length start.streams.heard) (length is.heard_then) (is.is_heard ∙ length-append start.streams.heard is.heard_then) in
     let s : turn.1 - length start.streams.said ≡ length then = over turn.1 (length start.streams.said) (length then) (is.is_said ∙ length-append start.streams.said then) in
     let front = sym (ap (λ n. take n heard) h ∙ front_of is.heard_then heard is.heard_front) in (
-      ap (λ n. take n said) s ∙ front_of then said is.said_front ∙ ap (λ l. p.greeting state ++ replies p.step state (commands_in p l)) front,
+      subst (λ l. AllSaid p.says (lines_to p state (commands_in p l)) (take (turn.1 - length start.streams.said) said)) front
+          (subst (AllSaid p.says (lines_to p state (commands_in p is.heard_then))) (sym (ap (λ n. take n said) s ∙ front_of then said is.said_front)) is.are_said),
       subst (λ l. is_over p l ≡ false) front is.goes_on,
     )
 
@@ -61,8 +62,8 @@ says_replies p state start world is =
     let s = behind start.streams.said is.said world.streams.said is.is_said in
     let t = behind start.streams.turns is.turns.more world.streams.turns is.turns.are_more in
     record {
-      part = subst (λ l. Begins l (p.greeting state ++ replies p.step state (commands p start world))) (sym s)
-          (subst (λ l. Begins is.said (p.greeting state ++ replies p.step state (commands_in p l))) (sym h) is.is_part);
+      part = subst (FirstSaid p.says (lines_to p state (commands p start world))) (sym s)
+          (subst (λ l. FirstSaid p.says (lines_to p state (commands_in p l)) is.said) (sym h) is.is_part);
       at_once = subst (λ turns. AllByRecursion (IsAtOnce p state start (heard_since start world) (said_since start world)) turns) (sym t)
           (subst (λ l. AllByRecursion (IsAtOnce p state start (heard_since start world) l) is.turns.more) (sym s)
           (subst (λ l. AllByRecursion (IsAtOnce p state start l is.said) is.turns.more) (sym h)
@@ -83,9 +84,9 @@ pub is_served : {S U : Type 0} (p : Protocol S U) (stands : Disk → S → Type 
     → IsServed p stands state end start world
 is_served p stands state end heard ended start world ends long is =
     let h : heard ≡ heard_since start world = sym (behind start.streams.heard heard world.streams.heard is.is_heard) in
-    let s = behind start.streams.said (p.greeting state ++ replies p.step state (commands_in p heard)) world.streams.said is.is_said in
+    let s = behind start.streams.said is.said world.streams.said is.is_said in
     record {
-      said = s ∙ ap (λ l. p.greeting state ++ replies p.step state (commands_in p l)) h;
+      said = subst (λ l. AllSaid p.says (lines_to p state (commands_in p l)) (said_since start world)) h (subst (AllSaid p.says (lines_to p state (commands_in p heard))) (sym s) is.are_said);
       is_state = subst (λ l. stands world.disk (state_after p.step state (commands_in p l))) h is.is_state;
       still_alike = λ same. subst (λ l. p.alike (state_after p.step state (commands_in p l)) world.disk) h (is.still_alike same);
       is_end = λ open_before. ends ∙ ap (λ l. regular_end (is_over p l) ended (p.unfinished l)) h
@@ -104,31 +105,24 @@ answered_first is_last (unit ∷ units) more = go is_last unit units more (is_la
     go is_last unit units more true below = record { rest = []; is_whole = refl }
     go is_last unit units more false below = record { rest = below.rest; is_whole = ap (λ l. unit ∷ l) below.is_whole }
 
-some_length : {A : Type 0} (xs : List A) → xs ≢ [] → 0 < length xs
-some_length [] some = absurd (some refl)
-some_length (x ∷ xs) some = omega arith
+-- of the lines of some units more there is one
+some_replies : {S U : Type 0} (p : Protocol S U) (state : S) (units : List U) (k : ℕ) → SaysSomething p → 0 < k → k ≤ length units → replies p.step state (take k units) ≢ []
+some_replies p state [] k says some within = absurd (omega arith)
+some_replies p state (unit ∷ units) zero says some within = absurd (omega arith)
+some_replies p state (unit ∷ units) (suc k) says some within = λ none. says.line state unit (no_front (p.step state unit).reply (replies p.step (p.step state unit).next (take k units)) none)
+  where
+    no_front : {A : Type 0} (xs ys : List A) → xs ++ ys ≡ [] → xs ≡ []
+    no_front [] ys none = refl
+    no_front (x ∷ xs) ys none = absurd (cc)
 
--- one reply more is longer
-longer_replies : {S U : Type 0} (step : S → U → Answered S) (state : S) (rest : List U) (k : ℕ) → ((s : S) (u : U) → (step s u).reply ≢ []) → 0 < k → k ≤ length rest → 0 < length (replies step state (take k rest))
-longer_replies step state [] k says some within = absurd (omega arith)
-longer_replies step state (unit ∷ rest) zero says some within = absurd (omega arith)
-longer_replies step state (unit ∷ rest) (suc k) says some within =
-    let one = some_length (step state unit).reply (says state unit) in
-    rw (length-append (step state unit).reply (replies step (step state unit).next (take k rest))) (omega (arith, one))
-
-more_replies : {S U : Type 0} (step : S → U → Answered S) (state : S) (done rest : List U) (m : ℕ) → ((s : S) (u : U) → (step s u).reply ≢ []) → length done < m → m ≤ length (done ++ rest)
-    → length (replies step state done) < length (replies step state (take m (done ++ rest)))
-more_replies step state done rest m says past within =
-    let k = m - length done in
-    let is : take m (done ++ rest) ≡ done ++ take k rest = ap (λ n. take n (done ++ rest)) (split m (length done) past) ∙ take-append-add done rest k in
-    let some = longer_replies step (state_after step state done) rest k says (omega arith) (rest_within done rest m within) in
-    rw (is, replies_append step state done (take k rest), length-append (replies step state done) (replies step (state_after step state done) (take k rest))) (omega (arith, some))
+more_lines : {S U : Type 0} (p : Protocol S U) (state : S) (done rest : List U) (m : ℕ) → length done < m
+    → lines_to p state (take m (done ++ rest)) ≡ lines_to p state done ++ replies p.step (state_after p.step state done) (take (m - length done) rest)
+more_lines p state done rest m past =
+    let is : take m (done ++ rest) ≡ done ++ take (m - length done) rest = ap (λ n. take n (done ++ rest)) (split m (length done) past) ∙ take-append-add done rest (m - length done) in
+    ap (lines_to p state) is ∙ ap (λ l. p.greeting state ∷ l) (replies_append p.step state done (take (m - length done) rest))
   where
     split : (m n : ℕ) → n < m → m ≡ n + (m - n)
     split m n past = omega arith
-
-    rest_within : {A : Type 0} (done rest : List A) (m : ℕ) → m ≤ length (done ++ rest) → m - length done ≤ length rest
-    rest_within done rest m within = let e = length-append done rest in omega (arith, e)
 
 begins_length : {A : Type 0} {xs ys : List A} → Begins xs ys → length xs ≤ length ys
 begins_length {xs = xs} {ys = ys} begins = let e = length-append xs begins.rest in let f = ap length begins.is_whole in omega (arith, e, f)
@@ -136,19 +130,39 @@ begins_length {xs = xs} {ys = ys} begins = let e = length-append xs begins.rest 
 found_length : (start said bytes : List ℕ) (k : ℕ) → bytes ≡ start ++ said → length (drop (length start) (take k bytes)) ≤ length said
 found_length start said bytes k is = let e = ap length is ∙ length-append start said in grind (arith, common_steps, e)
 
+no_tail : {A : Type 0} (xs ys : List A) → xs ++ ys ≡ [] → ys ≡ []
+no_tail [] ys none = none
+no_tail (x ∷ xs) ys none = absurd (cc)
+
+rest_within : {A : Type 0} (done rest : List A) (m : ℕ) → m ≤ length (done ++ rest) → m - length done ≤ length rest
+rest_within done rest m within = let e = length-append done rest in omega (arith, e)
+
+past_some : (m n : ℕ) → n < m → 0 < m - n
+past_some m n past = omega arith
+
+-- more lines than those of which some are said
+longer_said : {L : Type 0} (says : L → List ℕ → Type 0) (lines more : List L) (said whole : List ℕ)
+    → ((line : L) (bytes : List ℕ) → says line bytes → bytes ≢ [])
+    → ((line : L) (bytes other : List ℕ) → says line bytes → says line other → bytes ≡ other)
+    → more ≢ [] → FirstSaid says lines said → AllSaid says (lines ++ more) whole → length said < length whole
+longer_said says lines more said whole some one is_more is all =
+    let same : lines ++ more ≡ is.first ++ (is.are_first.rest ++ more) = sym (ap (λ l. l ++ more) is.are_first.is_whole) ∙ append_assoc is.first is.are_first.rest more in
+    let longer = all_longer says is.first (is.are_first.rest ++ more) is.whole whole some one (λ none. is_more (no_tail is.are_first.rest more none)) is.is_whole (subst (λ l. AllSaid says l whole) same all) in
+    let part = begins_length is.is_part in
+    omega (arith, longer, part)
+
 -- no more replies were said than those to the units that survive
-pub no_more : {S U : Type 0} (p : Protocol S U) (state : S) (done rest all : List U) (said found : List ℕ) (m : ℕ) → SaysSomething p
-    → done ++ rest ≡ all → Begins said (p.greeting state ++ replies p.step state done) → length found ≤ length said
-    → m ≤ length all → Begins (p.greeting state ++ replies p.step state (take m all)) found → m ≤ length done
-no_more p state done rest all said found m says whole part short within are =
+pub no_more : {S U : Type 0} (p : Protocol S U) (state : S) (done rest all : List U) (said found whole : List ℕ) (m : ℕ) → SaysSomething p
+    → done ++ rest ≡ all → FirstSaid p.says (lines_to p state done) said → length found ≤ length said
+    → m ≤ length all → AllSaid p.says (lines_to p state (take m all)) whole → Begins whole found → m ≤ length done
+no_more p state done rest all said found whole m says is part short within are begins =
     ⊎_elim (λ past.
-    let more = more_replies p.step state done rest m says past (subst (λ l. m ≤ length l) (sym whole) within) in
-    let a = begins_length part in
-    let b = begins_length are in
-    let e = length-append (p.greeting state) (replies p.step state done) in
-    let f = length-append (p.greeting state) (replies p.step state (take m all)) in
-    let g = ap (λ l. length (replies p.step state (take m l))) whole in
-    absurd (omega (arith, more, a, b, e, f, g, short)))
+    let within_all = subst (λ l. m ≤ length l) (sym is) within in
+    let some = some_replies p (state_after p.step state done) rest (m - length done) says (past_some m (length done) past) (rest_within done rest m within_all) in
+    let longer = longer_said p.says (lines_to p state done) (replies p.step (state_after p.step state done) (take (m - length done) rest)) said whole says.byte says.one some part
+    (subst (λ l. AllSaid p.says l whole) (more_lines p state done rest m past) (subst (λ l. AllSaid p.says (lines_to p state (take m l)) whole) (sym is) are)) in
+    let b = begins_length begins in
+    absurd (omega (arith, longer, b, short)))
     (λ is. is) (cases_lt (length done) m)
 
 pub survives : {S U : Type 0} (p : Protocol S U) (state : S) (start world : World) (image : Image) (k : ℕ)
@@ -170,10 +184,10 @@ survives p state start world image k says first same left is =
           let later = first is.heard ack.later in
           let goes_on = begins_trans finds.are_done (subst (λ us. Begins units (answered p.is_last us)) (sym later.1) (answered_first p.is_last (p.units_of is.heard) later.0)) in
           let all = commands_in p (is.heard ++ ack.later) in
-          no_more p state finds.done goes_on.rest all is.said (drop (length start.streams.said) (take k world.streams.said)) m says goes_on.is_whole finds.are_said
+          no_more p state finds.done goes_on.rest all is.said (drop (length start.streams.said) (take k world.streams.said)) ack.whole m says goes_on.is_whole finds.are_said
           (found_length start.streams.said is.said world.streams.said k is.is_said)
           (subst (λ l. m ≤ length (commands_in p (l ++ ack.later))) h ack.are_heard)
-          (subst (λ l. Begins (p.greeting state ++ replies p.step state (take m (commands_in p (l ++ ack.later)))) (drop (length start.streams.said) (take k world.streams.said))) h ack.are_said);
+          (subst (λ l. AllSaid p.says (lines_to p state (take m (commands_in p (l ++ ack.later)))) ack.whole) h ack.is_whole) ack.are_said;
     }
 
 -- ---- On histories
@@ -188,8 +202,8 @@ starts {U = U} p state a law =
       turns = refl;
       part = [];
       is_said = sym (append-nil a.streams.said);
-      is_part = record { rest = []; is_whole = refl };
-      crash = λ same image left. record { done = []; are_done = record { rest = []; is_whole = refl }; are_said = record { rest = []; is_whole = refl }; agreed = law a.disk state same image left };
+      is_part = first_none p.says [];
+      crash = λ same image left. record { done = []; are_done = record { rest = []; is_whole = refl }; are_said = first_none p.says []; agreed = law a.disk state same image left };
     })
 
 pub crash_since : {S U : Type 0} (p : Protocol S U) (state : S) (first new : History)

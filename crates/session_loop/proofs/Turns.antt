@@ -98,32 +98,30 @@ opened_here {U = U} p stands state now is = record {
   here = arrived_none (HasAnswered {U = U} p stands state []) now (now_weaker (λ w. stands w.disk state) (λ w. HasAnswered {U = U} p stands state [] w w) (λ w here. has_answered_none {U = U} p stands state w here) now is);
 }
 
--- the bytes are the greeting of the state that the session stands for
-pub is_greeting : {S U : Type 0} (p : Protocol S U) (stands : Disk → S → Type 0) (state : S) (bytes : List ℕ) (result : Result (Unit {0}) Failed) (first old new : History)
-    → Opened {S = S} {U = U} p stands state first old → Now old (λ w. (s : S) → stands w.disk s → bytes ≡ p.greeting s)
-    → Says bytes result old new → Says (p.greeting state) result old new
-is_greeting {S = S} {U = U} p stands state bytes result first old new is given says =
-    go old (arrived_now (HasAnswered {U = U} p stands state []) (λ w. stands w.disk state) (λ a b here. here.is_state) first old is.here) given says
-  where
-    go : (old : History) → Now old (λ w. stands w.disk state) → Now old (λ w. (s : S) → stands w.disk s → bytes ≡ p.greeting s) → Says bytes result old new → Says (p.greeting state) result old new
-    go [] here given says = says
-    go (world ∷ past) here given says = subst (λ b. Says b result (world ∷ past) new) (given state here) says
+-- the session is open, and the bytes are its greeting
+opened_greeting : {S U : Type 0} (p : Protocol S U) (stands : Disk → S → Type 0) (state : S) (bytes : List ℕ) (first old : History)
+    → Arrived (HasAnswered {S = S} {U = U} p stands state []) first old → Now old (λ w. (s : S) → stands w.disk s → p.says (p.greeting s) bytes)
+    → Arrived (λ a b. HasAnswered {S = S} {U = U} p stands state [] a b × p.says (p.greeting state) bytes) first old
+opened_greeting p stands state bytes [] old is given = is
+opened_greeting p stands state bytes (start ∷ past) [] is given = is
+opened_greeting p stands state bytes (start ∷ past) (end ∷ more) is given = (is, given state is.is_state)
 
-pub say_passed : {S U : Type 0} (p : Protocol S U) (stands : Disk → S → Type 0) (state : S) (result : Result (Unit {0}) Failed) (first old new : History)
+pub say_passed : {S U : Type 0} (p : Protocol S U) (stands : Disk → S → Type 0) (state : S) (bytes : List ℕ) (result : Result (Unit {0}) Failed) (first old new : History)
     → IsKept p
-    → Opened {S = S} {U = U} p stands state first old → Says (p.greeting state) result old new → Passed (Serving p state) first new
-say_passed {U = U} p stands state result first old new law is says =
-    passed_then (Serving p state) (HasAnswered {U = U} p stands state []) (IsSaying (p.greeting state)) (Serving p state) (λ a b here. here)
-    (λ a b c open_here said. greeting_instant p stands state a b c law open_here said) first old new
+    → Opened {S = S} {U = U} p stands state first old → Now old (λ w. (s : S) → stands w.disk s → p.says (p.greeting s) bytes)
+    → Says bytes result old new → Passed (Serving p state) first new
+say_passed {U = U} p stands state bytes result first old new law is given says =
+    passed_then (Serving p state) (λ a b. HasAnswered {U = U} p stands state [] a b × p.says (p.greeting state) bytes) (IsSaying bytes) (Serving p state) (λ a b here. here)
+    (λ a b c open_here said. greeting_instant p stands state bytes a b c law open_here said) first old new
     (passed_weaker (Answering {U = U} p state []) (Serving p state) (opening_instant p state) first old is.instants)
-    is.here (passed_say (p.greeting state) result old new says)
+    (opened_greeting p stands state bytes first old is.here given) (passed_say bytes result old new says)
 
-pub say_arrived : {S U : Type 0} (p : Protocol S U) (stands : Disk → S → Type 0) (state : S) (u : Unit {0}) (first old new : History)
-    → p.units_of [] ≡ [] → Opened {S = S} {U = U} p stands state first old → Says (p.greeting state) (Ok u) old new
-    → Arrived (HasServed p stands state [] (commands_in p []) false) first new
-say_arrived {U = U} p stands state u first old new none is says =
-    arrived_then (HasAnswered {U = U} p stands state []) (HasSaid (p.greeting state)) (HasServed p stands state [] (commands_in p []) false)
-    (λ a b c open_here said. greeting_said p stands state a b c none open_here said) first old new is.here (arrived_say (p.greeting state) u old new says)
+pub say_arrived : {S U : Type 0} (p : Protocol S U) (stands : Disk → S → Type 0) (state : S) (bytes : List ℕ) (u : Unit {0}) (first old new : History)
+    → p.units_of [] ≡ [] → Opened {S = S} {U = U} p stands state first old → Now old (λ w. (s : S) → stands w.disk s → p.says (p.greeting s) bytes)
+    → Says bytes (Ok u) old new → Arrived (HasServed p stands state [] (commands_in p []) false) first new
+say_arrived {U = U} p stands state bytes u first old new none is given says =
+    arrived_then (λ a b. HasAnswered {U = U} p stands state [] a b × p.says (p.greeting state) bytes) (HasSaid bytes) (HasServed p stands state [] (commands_in p []) false)
+    (λ a b c open_here said. greeting_said p stands state bytes a b c none open_here said) first old new (opened_greeting p stands state bytes first old is.here given) (arrived_say bytes u old new says)
 
 -- ---- The units of a piece
 

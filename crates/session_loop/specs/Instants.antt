@@ -7,13 +7,14 @@ use Rattle.file_model.specs.Histories.{World, History, Passed}
 use Rattle.session_loop.specs.declared.end.End.{End}
 use Rattle.session_loop.specs.Outcome.{regular_end, IsLong}
 use Rattle.session_loop.specs.Machine.{Protocol, replies, state_after, commands_in, is_over}
+use Rattle.session_loop.specs.Saying.{AllSaid, FirstSaid, lines_to}
 use Rattle.file_model.specs.Arrived.{Arrived, Begins}
 
 -- What a crash finds: some of the units were answered, no byte of a later reply was said, and the image agrees with the state after them.
-pub record Finds {S U : Type 0} (p : Protocol S U) (state : S) (units : List U) (front said : List ℕ) (image : Image) : Type 0 where
+pub record Finds {S U : Type 0} (p : Protocol S U) (state : S) (units : List U) (front : List p.Line) (said : List ℕ) (image : Image) : Type 0 where
   pub done : List U
   pub are_done : Begins done units
-  pub are_said : Begins said (front ++ replies p.step state done)
+  pub are_said : FirstSaid p.says (front ++ replies p.step state done) said
   pub agreed : p.agrees (state_after p.step state done) image
 
 -- An instant while units are answered: nothing is heard, and a part of their replies is said.
@@ -23,7 +24,7 @@ pub record Answering {S U : Type 0} (p : Protocol S U) (state : S) (units : List
   pub turns : world.streams.turns ≡ start.streams.turns
   pub part : List ℕ
   pub is_said : world.streams.said ≡ start.streams.said ++ part
-  pub is_part : Begins part (replies p.step state units)
+  pub is_part : FirstSaid p.says (replies p.step state units) part
   pub crash : p.alike state start.disk → (image : Image) → MayLeave world.disk image → Finds p state units [] part image
 
 -- Units were answered: their replies were said, and the session stands for the state after them.
@@ -31,7 +32,9 @@ pub record HasAnswered {S U : Type 0} (p : Protocol S U) (stands : Disk → S �
   pub heard : world.streams.heard ≡ start.streams.heard
   pub ended : world.streams.ended ≡ start.streams.ended
   pub turns : world.streams.turns ≡ start.streams.turns
-  pub said : world.streams.said ≡ start.streams.said ++ replies p.step state units
+  pub bytes : List ℕ
+  pub are_said : AllSaid p.says (replies p.step state units) bytes
+  pub said : world.streams.said ≡ start.streams.said ++ bytes
   pub is_state : stands world.disk (state_after p.step state units)
   pub still_alike : p.alike state start.disk → p.alike (state_after p.step state units) world.disk
 
@@ -44,8 +47,10 @@ pub record IsTurn {S U : Type 0} (p : Protocol S U) (state : S) (start : World) 
   pub heard_then : List ℕ
   pub is_heard : turn.0 ≡ length (start.streams.heard ++ heard_then)
   pub heard_front : Begins heard_then heard
-  pub is_said : turn.1 ≡ length (start.streams.said ++ (p.greeting state ++ replies p.step state (commands_in p heard_then)))
-  pub said_front : Begins (p.greeting state ++ replies p.step state (commands_in p heard_then)) said
+  pub said_then : List ℕ
+  pub are_said : AllSaid p.says (lines_to p state (commands_in p heard_then)) said_then
+  pub is_said : turn.1 ≡ length (start.streams.said ++ said_then)
+  pub said_front : Begins said_then said
   pub goes_on : is_over p heard_then ≡ false
 
 -- each turn but the last heard a byte: as the next one began, more bytes were heard
@@ -67,17 +72,19 @@ pub record Serving {S U : Type 0} (p : Protocol S U) (state : S) (start world : 
   pub few : length heard ≤ most_heard
   pub said : List ℕ
   pub is_said : world.streams.said ≡ start.streams.said ++ said
-  pub is_part : Begins said (p.greeting state ++ replies p.step state (commands_in p heard))
+  pub is_part : FirstSaid p.says (lines_to p state (commands_in p heard)) said
   pub turns : Turns p state start world heard said
-  pub crash : p.alike state start.disk → (image : Image) → MayLeave world.disk image → Finds p state (commands_in p heard) (p.greeting state) said image
+  pub crash : p.alike state start.disk → (image : Image) → MayLeave world.disk image → Finds p state (commands_in p heard) (p.greeting state ∷ []) said image
 
 -- These bytes were heard, and the end or not, and these units were answered. Before the end each turn heard a byte.
 pub record HasServed {S U : Type 0} (p : Protocol S U) (stands : Disk → S → Type 0) (state : S) (heard : List ℕ) (units : List U) (over : Bool) (start world : World) : Type 0 where
   pub is_heard : world.streams.heard ≡ start.streams.heard ++ heard
   pub few : length heard ≤ most_heard
   pub is_over : world.streams.ended ≡ start.streams.ended || over
-  pub is_said : world.streams.said ≡ start.streams.said ++ (p.greeting state ++ replies p.step state units)
-  pub turns : Turns p state start world heard (p.greeting state ++ replies p.step state units)
+  pub said : List ℕ
+  pub are_said : AllSaid p.says (lines_to p state units) said
+  pub is_said : world.streams.said ≡ start.streams.said ++ said
+  pub turns : Turns p state start world heard said
   pub all_heard : over ≡ false → AllByRecursion (λ turn. turn.0 < length world.streams.heard) turns.more
   pub is_state : stands world.disk (state_after p.step state units)
   pub still_alike : p.alike state start.disk → p.alike (state_after p.step state units) world.disk

@@ -1,4 +1,5 @@
 pub mod Machine
 pub mod Instants
 pub mod Outcome
+pub mod Saying
 pub mod Headline

@@ -5,7 +5,7 @@ ghost use Rattle.file_model.specs.Images.{Image};
 ghost use Rattle.file_model.specs.Disk.{MayLeave};
 ghost use Rattle.file_model.specs.Histories.{History, World, Now, Passed, instant};
 ghost use Rattle.file_model.specs.Arrived.{Arrived, worlds_since};
-ghost use Rattle.session_loop.specs.Machine.{SaysSomething, replies, commands_in};
+ghost use Rattle.session_loop.specs.Machine.{SaysSomething, commands_in};
 ghost use Rattle.session_loop.specs.Instants.{Serving, HasServed, EndsAs, Opened};
 ghost use Rattle.session_loop.specs.Headline.{SaysReplies, IsBounded, IsServed, Survives};
 ghost use Rattle.session_loop.specs.Outcome.{EndCause, IsFault};
@@ -31,9 +31,9 @@ pub fn serve<H: Host, S: Answers<H>>(
     greeting: &[u8],
 ) -> End
     requires stands { Now (H.history host.old) (λ w. (state : S.State) × S.stands session.old w.disk state) }
-    // The bytes given are the greeting of each state for which the session stands.
+    // The greeting of each state for which the session stands is said in the bytes given.
     requires greeting { Now (H.history host.old) (λ w. (state : S.State) → S.stands session.old w.disk state
-        → greeting.now ≡ S.protocol.greeting state) }
+        → S.protocol.says (S.protocol.greeting state) greeting.now) }
 
     // The session may have been opened by a run that began earlier, at `first`.
 
@@ -55,7 +55,7 @@ pub fn serve<H: Host, S: Answers<H>>(
         → IsFault result ⊎ Arrived (IsServed S.protocol (S.stands session.new) state result) first (H.history host.new) }
 
     // Whatever a crash at an instant leaves and however much it finds said: what survives the first n units, among them all
-    // whose replies it finds said. Each reply has to have a byte, or none would tell that its unit was answered.
+    // whose replies it finds said. Each line has to have a byte, or none would tell that its unit was answered.
     ensures crash { (first : History) (state : S.State) → SaysSomething S.protocol → Opened S.protocol (S.stands session.old) state first (H.history host.old)
         → Now first (λ start. S.protocol.alike state start.disk
         → (world : World) → Contains (worlds_since (instant first) (H.history host.new)) world → (image : Image) → MayLeave world.disk image → (k : ℕ)
