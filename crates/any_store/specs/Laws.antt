@@ -1,15 +1,17 @@
 -- The laws of the enum, from those of its drivers. A further driver adds a line to each.
-use Rattle.std.proofs.Common.{◌≡◌, ◌≢◌, ℕ, List, [], Some, inr, refl, sym, true, false}
+use Rattle.std.proofs.Common.{◌≡◌, ◌≢◌, ℕ, List, [], ◌∷◌, Some, inr, refl, sym, ◌∙◌, ap, true, false}
+use Rattle.std.specs.Prelude.{◌↔◌}
 use Rattle.std.proofs.lemmas.Bool.{false≢true}
 use Rattle.mail_types.specs.declared.driver.Driver.{Driver}
 use Rattle.mail_types.specs.declared.driver.Driver.TheVariants.{Unix as UnixDriver, Mmdf, Mbx as MbxDriver, Mtx, Tenex, Mh, Mix}
 use Rattle.mail_types.specs.declared.contents.StoreContents.{StoreContents}
+use Rattle.mail_types.specs.declared.message.Record.{Record}
 use Rattle.store_trait.proofs.Grammars.{form_reads}
 use Rattle.store_trait.specs.Laws.{IsFileReading, IsDirectoryReading, IsForm, IsReading, IsView}
 use Rattle.store_trait.specs.OwnPaths.{is_directory_driver}
 use Rattle.any_store.specs.declared.any.AnyStore.{AnyStore}
 use Rattle.any_store.specs.declared.any.AnyStore.TheVariants.{Unix, Mbx}
-use Rattle.any_store.specs.Choice.{formats_of, chosen}
+use Rattle.any_store.specs.Choice.{formats_of, chosen, driver_by_records, stored_driver, IsStored}
 use Rattle.any_store.specs.Promises.{IsChoice}
 use Rattle.any_store.specs.Stores.{is_known, no_forms, mbx_read, unix_forms, mbx_forms, all_forms, unix_view, mbx_view, view_of}
 use Rattle.any_store.specs.OwnForms.{own_unix, own_mbx, some_mbx}
@@ -78,7 +80,7 @@ any_reads Mix = no_directory_reads
 
 -- A driver of one file adds two lines: its bytes choose it, and what no bytes say in it.
 pub any_is_choice : IsChoice (formats_of all_forms chosen)
-any_is_choice = record { files = chosen_file; own = own; empty = chosen_empty; same_empty = same_empty }
+any_is_choice = record { files = chosen_file; own = own; empty = chosen_empty; same_empty = same_empty; stored = stored }
   where
     own : (d : Driver) (bytes : List ℕ) (contents : StoreContents) (records : ℕ) → is_directory_driver d ≡ false → (all_forms.file d).spells bytes contents records → bytes ≢ [] → chosen bytes ≡ Some d
     own UnixDriver bytes contents records kind is some = own_unix bytes contents records is some
@@ -97,3 +99,39 @@ any_is_choice = record { files = chosen_file; own = own; empty = chosen_empty; s
     same_empty Tenex contents records kind is = absurd is
     same_empty Mh contents records kind is = absurd (false≢true (sym kind))
     same_empty Mix contents records kind is = absurd (false≢true (sym kind))
+
+    by_unix : (records : List Record) → driver_by_records UnixDriver records ≡ UnixDriver
+    by_unix [] = refl
+    by_unix (first ∷ rest) = refl
+
+    by_mbx : (records : List Record) → driver_by_records MbxDriver records ≡ MbxDriver
+    by_mbx [] = refl
+    by_mbx (first ∷ rest) = refl
+
+    unix_stored : (bytes : List ℕ) (contents : StoreContents) (records : ℕ) → (all_forms.file UnixDriver).spells bytes contents records → chosen bytes ≡ Some UnixDriver
+    unix_stored [] contents records is = chosen_empty
+    unix_stored (first ∷ rest) contents records is = own_unix (first ∷ rest) contents records is (λ none. absurd (cc))
+
+    stored : (d : Driver) (bytes : List ℕ) (contents : StoreContents) (records : ℕ) → is_directory_driver d ≡ false → IsStored d contents → (all_forms.file d).spells bytes contents records
+        → chosen bytes ≡ Some (stored_driver d contents)
+    stored UnixDriver bytes contents records kind has is = unix_stored bytes contents records is ∙ ap Some (sym (by_unix contents.records))
+    stored MbxDriver bytes contents records kind has is = own_mbx bytes contents records is ∙ ap Some (sym (by_mbx contents.records))
+    stored Mmdf bytes contents records kind has is = absurd is
+    stored Mtx bytes contents records kind has is = absurd is
+    stored Tenex bytes contents records kind has is = absurd is
+    stored Mh bytes contents records kind has is = absurd (false≢true (sym kind))
+    stored Mix bytes contents records kind has is = absurd (false≢true (sym kind))
+
+-- A store knows the drivers that stand.
+pub any_knows : (d : Driver) → all_forms.knows d ↔ (is_known d ≡ true)
+any_knows d = ((λ knows. knows), (λ known. known))
+
+-- While unix and mbx stand alone, a mailbox is one file.
+pub any_of_files : (d : Driver) → all_forms.knows d → is_directory_driver d ≡ false
+any_of_files UnixDriver known = refl
+any_of_files MbxDriver known = refl
+any_of_files Mmdf known = refl
+any_of_files Mtx known = refl
+any_of_files Tenex known = refl
+any_of_files Mh known = absurd (false≢true known)
+any_of_files Mix known = absurd (false≢true known)

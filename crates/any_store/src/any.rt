@@ -1,6 +1,6 @@
 // A mailbox of any driver that stands.
 ghost use Rattle.any_store.specs.Stores.{all_forms, view_of};
-ghost use Rattle.any_store.specs.Laws.{any_is_view, any_are_forms, any_reads, any_is_choice};
+ghost use Rattle.any_store.specs.Laws.{any_is_view, any_are_forms, any_reads, any_is_choice, any_knows, any_of_files};
 
 use crate::AnyMailbox;
 use crate::looking::{driver_at, look_for};
@@ -181,4 +181,8 @@ impl<F: Files> AnyMailbox<F> for AnyStore {
     ghost all_read = { any_reads };
 
     ghost is_choice = { any_is_choice };
+
+    ghost knows_standing = { any_knows };
+
+    ghost of_files = { any_of_files };
 }

@@ -10,7 +10,7 @@ mod refusing;
 
 pub use any::AnyStore;
 pub use calls::AnyMailbox;
-pub use choice::driver_of_front;
+pub use choice::{driver_of_front, is_known};
 pub use large::has_long;
 pub use looking::driver_at;
 pub use refusing::refuse;
