@@ -29,11 +29,11 @@ pub record ChangesFile (path : List ℕ) (start end : Image) : Type 0 where
   pub beside : Agree (temporary_of path) end start ⊎ ((directory_test (node_at end (temporary_of path)) ≡ false) × (directory_test (node_at start (temporary_of path)) ≡ false))
 
 -- where a path below a root stands
-record Placed (root m : List ℕ) : Type 0 where
-  plain : HasNoSlash (last_part (child root m))
-  above : (parent (child root m) ≡ root) ⊎ IsAbove root m (parent (child root m))
+pub record Placed (root m : List ℕ) : Type 0 where
+  pub plain : HasNoSlash (last_part (child root m))
+  pub above : (parent (child root m) ≡ root) ⊎ IsAbove root m (parent (child root m))
 
-placed : (root m : List ℕ) → Placed root m
+pub placed : (root m : List ℕ) → Placed root m
 placed root m = at (split_path (child root m)) refl
   where
     at : (s : Option (List ℕ × List ℕ)) → split_path (child root m) ≡ s → Placed root m
@@ -61,7 +61,7 @@ module _ (root m : List ℕ) where
   last_new : last_part (temporary_of path) ≡ codes ".new" ++ last_part path
   last_new = last_part_child (parent path) (codes ".new" ++ last_part path) (new_plain (last_part path) (placed root m).plain)
 
-  parent_new : parent (temporary_of path) ≡ parent path
+  pub parent_new : parent (temporary_of path) ≡ parent path
   parent_new = parent_child (parent path) (codes ".new" ++ last_part path) (new_plain (last_part path) (placed root m).plain)
 
   -- a name in a directory that is the temporary file's is a leftover one

@@ -14,7 +14,7 @@ use Rattle.file_model.proofs.Inside.{not_both}
 use Rattle.any_store.specs.Choice.{Formats}
 use Rattle.mail_tree.specs.declared.fault.TreeFault.TheVariants.{There}
 use Rattle.mail_tree.specs.Changes.{due_create_dir, tree_with_directory}
-use Rattle.mail_tree.specs.Making.{MadeDirectory, MakesParents}
+use Rattle.mail_tree.specs.Making.{MadeDirectory, MakesParents, IsNameSeen}
 use Rattle.mail_tree.specs.Names.{is_path, begins_badly, IsName}
 use Rattle.mail_tree.specs.Promises.{IsMadeAbove}
 use Rattle.mail_tree.specs.Sights.{is_standing, stands_at, is_blocked_at}
@@ -40,7 +40,7 @@ pub stands_none : (image : Image) (path : List ℕ) → stands_at image path ≡
 stands_none image path is = standing_none (node_at image path) is
 
 module _ (formats : Formats) (root name : List ℕ) (is : IsName name) (image : Image) (rooted : IsRooted image) (tree : Tree) (has : HasTree formats root image tree) where
-  free_tree : is_blocked_at root image name ≡ false → is_blocked tree.nodes name ≡ false
+  pub free_tree : is_blocked_at root image name ≡ false → is_blocked tree.nodes name ≡ false
   free_tree free = blocked_same formats root image tree has rooted name (name_path name is) ∙ free
 
   -- a node stands where something does
@@ -99,13 +99,6 @@ can_make formats root name is some start mid none parents = record {
   };
   name = last_free root name (name_path name is);
 }
-
--- nothing is in the way of a name, and nothing stands at it
-abbrev pub IsNameSeen : (there : Bool) → List ℕ → List ℕ → Disk → Type 0
-IsNameSeen there root name disk = (is_blocked_at root (seen disk) name ≡ false) × (stands_at (seen disk) (child root name) ≡ there) × IsSound disk
-
-abbrev pub IsFreeName : List ℕ → List ℕ → Disk → Type 0
-IsFreeName root name disk = IsNameSeen false root name disk
 
 pub free_known : (root name : List ℕ) (blocked there is : Bool) → blocked ≡ false → there ≡ is → (old : History) → Now old (λ w. blocked ≡ is_blocked_at root (seen w.disk) name) → Now old (λ w. there ≡ stands_at (seen w.disk) (child root name))
     → Now old (λ w. IsSound w.disk) → Now old (λ w. IsNameSeen is root name w.disk)

@@ -175,7 +175,7 @@ no_entry : (l : List (List ℕ × Bool)) → length l ≡ 0 → l ≡ []
 no_entry [] e = refl
 no_entry (x ∷ l) e = absurd (omega (arith, e))
 
-entries_empty : entries (empty {X = Bool} {R = path_cmp}) ≡ []
+pub entries_empty : entries (empty {X = Bool} {R = path_cmp}) ≡ []
 entries_empty = no_entry (entries (empty {X = Bool} {R = path_cmp})) (sym (len-entries (empty {X = Bool} {R = path_cmp})) ∙ len-empty path_cmp Bool)
 
 pub none_above : (pattern : List ℕ) (names : List (List ℕ)) (found : List (List ℕ × Bool)) → found ≡ [] → ends_in_percent pattern ≡ false → found ≡ entries (put_all true (names_above pattern names) empty)

@@ -22,13 +22,13 @@ use Rattle.mail_tree.specs.declared.fault.TreeFault.{TreeFault}
 use Rattle.mail_tree.specs.declared.fault.TreeFault.TheVariants.{Failed}
 use Rattle.mail_tree.specs.Agreement.{mix_of}
 use Rattle.mail_tree.specs.Changes.{empty_directory, put_missing, with_parents, tree_with_directory}
-use Rattle.mail_tree.specs.Making.{MakesAt, MakesAbove, SeesAbove, MadeDirectory}
+use Rattle.mail_tree.specs.Making.{MakesAt, MakesAbove, SeesAbove, MadeDirectory, IsFreeName}
 use Rattle.mail_tree.specs.Names.{is_part, is_path, prefixes, IsName}
 use Rattle.mail_tree.specs.Promises.{IsMadeAbove, IsMadeAt, LeavesBut, CommitsTree}
 use Rattle.mail_tree.specs.Trees.{Meaning, TreeNode, unknown_file, file_mailbox, folder, Nodes, Tree, HasTree, IsNodeOf, is_message}
 use Rattle.mail_tree.proofs.Below.{special_apart}
 use Rattle.mail_tree.proofs.Beside.{IsMixApart, TouchesNone, SameMix, commits_beside}
-use Rattle.mail_tree.proofs.Creating.{name_path, stands_none, IsFreeName}
+use Rattle.mail_tree.proofs.Creating.{name_path, stands_none}
 use Rattle.mail_tree.proofs.ReservedNames.{part_free}
 use Rattle.mail_tree.proofs.Joined.{ended_two}
 use Rattle.mail_tree.proofs.Nodes.{AreFormats, meta_plain}
@@ -52,7 +52,7 @@ seen_both root name a b c one made = record { each = λ q. at q (cases_path q (c
     at q (inr apart) (inr (inl may)) = absurd may.0
     at q (inr apart) (inr (inr m)) = inr (inr (inr m))
 
-any_now : (h : History) → Now h (λ w. Unit {0})
+pub any_now : (h : History) → Now h (λ w. Unit {0})
 any_now [] = tt
 any_now (x ∷ h) = tt
 
@@ -126,7 +126,7 @@ module _ (formats : Formats) (root name : List ℕ) (is : is_path name ≡ true)
   touches_none tree has = record { each = λ path is_path. node_apart path (is_message root (seen a) path) (get tree.nodes path) (has.nodes path is_path).is }
 
   -- no node stands at the name
-  no_node : (message : Bool) (o : Option TreeNode) → IsNodeOf formats (child root name) (seen a) message o → o ≡ None
+  pub no_node : (message : Bool) (o : Option TreeNode) → IsNodeOf formats (child root name) (seen a) message o → o ≡ None
   no_node message None node = refl
   no_node message (Some unknown_file) node = let e : file node.1.0 ≡ nothing = sym node.1.1 ∙ none in absurd (cc)
   no_node message (Some (file_mailbox driver meaning)) node = let e : file node.1.0 ≡ nothing = sym node.1.1 ∙ none in absurd (cc)
@@ -139,7 +139,7 @@ with_empty nodes p none q = ⊎_elim
     (λ here. ap (λ z. mix_of (get (insert nodes p (folder empty_directory)) z)) here ∙ ap mix_of (get_put_same nodes p (folder empty_directory)) ∙ sym (ap mix_of (ap (get nodes) here ∙ none)))
     (λ apart. ap mix_of (get_put_other nodes p (folder empty_directory) q apart)) (cases_path q p)
 
-with_missing : (paths : List (List ℕ)) (nodes : Nodes) (q : List ℕ) → mix_of (get (put_missing paths nodes) q) ≡ mix_of (get nodes q)
+pub with_missing : (paths : List (List ℕ)) (nodes : Nodes) (q : List ℕ) → mix_of (get (put_missing paths nodes) q) ≡ mix_of (get nodes q)
 with_missing [] nodes q = refl
 with_missing (p ∷ rest) nodes q = with_missing rest (cond (is_some (get nodes p)) nodes (insert nodes p (folder empty_directory))) q ∙ at (get nodes p) refl
   where

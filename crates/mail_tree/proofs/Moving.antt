@@ -37,7 +37,7 @@ test_below root d q true is = under_test (child root d) (child root q) (under_be
 test_below root d q false is = false_from_ne_true (is_at_or_inside (child root d) (child root q)) (λ holds. not_both (is_at_or_inside d q) (under_test d q (below_under root d q (under_is (child root d) (child root q) holds))) is)
 
 -- a name in a directory is under what the directory is under, or is it
-name_under : (d q name : List ℕ) → HasNoSlash name → is_at_or_inside d (child q name) ≡ true → (is_at_or_inside d q ≡ true) ⊎ (child q name ≡ d)
+pub name_under : (d q name : List ℕ) → HasNoSlash name → is_at_or_inside d (child q name) ≡ true → (is_at_or_inside d q ≡ true) ⊎ (child q name ≡ d)
 name_under d q name plain is = at (under_is d (child q name) is)
   where
     at : Under d (child q name) → (is_at_or_inside d q ≡ true) ⊎ (child q name ≡ d)
@@ -55,7 +55,7 @@ unfolding is_path
 no_empty h = cc
 
 -- what may follow a path, and more
-longer : (r : List ℕ) → Slash r → (name : List ℕ) → Slash (r ++ 47 ∷ name)
+pub longer : (r : List ℕ) → Slash r → (name : List ℕ) → Slash (r ++ 47 ∷ name)
 longer r (inl none) name = inr (name, ap (λ l. l ++ 47 ∷ name) none)
 longer r (inr more) name = inr (more.0 ++ 47 ∷ name, ap (λ l. l ++ 47 ∷ name) more.1)
 

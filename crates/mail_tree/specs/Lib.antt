@@ -1,10 +1,15 @@
 pub mod Agreement
 pub mod Changes
+pub mod Changing
+pub mod Deleting
 pub mod Listing
+pub mod Mailboxes
 pub mod Making
 pub mod Matching
 pub mod Names
 pub mod Promises
+pub mod Renaming
 pub mod Sights
 pub mod Subscriptions
 pub mod Trees
+pub mod Walks

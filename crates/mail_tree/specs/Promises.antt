@@ -1,6 +1,6 @@
 -- What the calls on the tree say, each as a record of facts.
 -- `old` and `new` are the host's histories at a call's start and end.
-use Rattle.std.specs.Prelude.{ℕ, Bool, true, false, List, ◌≡◌, ◌⊎◌, ◌||◌, map, ◌∷◌, ◌++◌, Option, Result, Ok, Err, OnOk, IsErrOf}
+use Rattle.std.specs.Prelude.{ℕ, Bool, true, false, List, ◌≡◌, ◌⊎◌, ◌||◌, map, ◌∷◌, ◌++◌, Option, Some, Result, Ok, Err, OnOk, IsErrOf}
 use Rattle.file_model.specs.Causes.{Faults, Rose, OnlyFiles}
 use Rattle.file_model.specs.Disk.{Disk, seen, MayLeave}
 use Rattle.file_model.specs.Histories.{History, Now, Ran, Ended}
@@ -38,6 +38,10 @@ HasRoot root old = Now old (λ w. is_directory (seen w.disk) root ≡ true)
 -- the answer is the one that is due by the tree that reads see
 abbrev pub AnswersBy : {T : Type 0} → Formats → List ℕ → (Tree → Option TreeFault) → Result T TreeFault → History → Type 0
 AnswersBy formats root due result old = Now old (λ w. (tree : Tree) → HasTree formats root (seen w.disk) tree → AnswersTree (due tree) result)
+
+-- the same of a refusal alone
+abbrev pub RefusesBy : Formats → List ℕ → (Tree → Option TreeFault) → TreeFault → History → Type 0
+RefusesBy formats root due fault old = Now old (λ w. (tree : Tree) → HasTree formats root (seen w.disk) tree → (due tree ≡ Some fault) ⊎ (breaks_tree fault ≡ true))
 
 -- a call fails only where a call on the files failed
 abbrev pub tree_failed : TreeFault → Bool

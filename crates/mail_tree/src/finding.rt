@@ -25,8 +25,12 @@ pub struct Listed {
     pub directory: bool,
 }
 
-// One more name.
-fn put_name(found: &mut BTreeMap<Name, bool>, name: Name, directory: bool) -> Result<(), AllocError>
+/// One more name.
+pub fn put_name(
+    found: &mut BTreeMap<Name, bool>,
+    name: Name,
+    directory: bool,
+) -> Result<(), AllocError>
     ensures { (m : FinMap path_cmp Bool) → entries m ≡ found.old.entries → OnOk result (found.new.entries ≡ entries (insert m name directory)) }
 {
     found.insert(name, directory)?;
@@ -117,8 +121,8 @@ fn put_names(
     Ok(())
 }
 
-// By rising bytes.
-fn as_list(alloc: Global, found: BTreeMap<Name, bool>) -> Result<Vec<Listed>, AllocError>
+/// By rising bytes.
+pub fn as_list(alloc: Global, found: BTreeMap<Name, bool>) -> Result<Vec<Listed>, AllocError>
     ensures { IfOk result (λ list. map (λ (entry : ListedEntry). record { name = entry.name; directory = entry.directory }) list.items ≡ as_listed found.entries) }
 {
     let mut list = Vec::new(alloc);

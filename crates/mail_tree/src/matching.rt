@@ -1,7 +1,9 @@
 // Whether a pattern of LIST matches a name.
-ghost use Rattle.std.specs.Prelude.{◌≡◌, ◌≤◌, ◌+◌, ◌&&◌, ◌||◌, ◌==◌, ◌++◌, List, ℕ, IfOk, false, length, map};
+ghost use Rattle.std.specs.Prelude.{◌≡◌, ◌≤◌, ◌<◌, ◌+◌, ◌&&◌, ◌||◌, ◌==◌, ◌++◌, List, ℕ, IfOk, IfSome, false, length, map, take, option_map};
+ghost use Rattle.std.specs.Borrow.{Bor};
 ghost use Rattle.std.specs.List.{AllByRecursion};
 ghost use Rattle.mail_tree.specs.Listing.{fits, fits_name, ends_in_percent, upper};
+ghost use Rattle.mail_tree.specs.Walks.{leads, is_wild, fixed_front};
 ghost use Rattle.mail_tree.specs.Matching.{any_passes, any_row, byte_row, row_after, first_passes, goes_on};
 
 use std::alloc::{AllocError, Global};
@@ -107,6 +109,61 @@ pub fn fits(pattern: &[u8], name: &[u8]) -> bool
     fits_in(&mut row[..name.len() + 1], pattern, name)
 }
 
+// Whether a beginning of the pattern matches, where the row has the text's first place alone.
+fn leads_from(row: &mut [bool], pattern: &[u8], text: &[u8]) -> bool
+    requires length { length row.old ≡ length text.now + 1 }
+    ensures { result ≡ any_passes row.old (leads pattern.now) text.now }
+{
+    let mut found = false;
+    for wanted in pattern {
+        found = either(found, row[text.len()]);
+        after_one(row, text, *wanted);
+    }
+    either(found, row[text.len()])
+}
+
+// The same, with a row that has no place yet.
+fn leads_in(row: &mut [bool], pattern: &[u8], text: &[u8]) -> bool
+    requires length { length row.old ≡ length text.now + 1 }
+    requires none { AllByRecursion (λ here. here ≡ false) row.old }
+    ensures { result ≡ leads pattern.now text.now }
+{
+    row[0] = true;
+    leads_from(row, pattern, text)
+}
+
+// Whether some beginning of a pattern matches a text of at most 256 bytes.
+fn leads(pattern: &[u8], text: &[u8]) -> bool
+    requires { length text.now ≤ 256 }
+    ensures { result ≡ leads pattern.now text.now }
+{
+    let mut row = [false; 257];
+    leads_in(&mut row[..text.len() + 1], pattern, text)
+}
+
+fn is_wild(byte: u8) -> bool
+    ensures { result ≡ is_wild byte }
+{
+    byte == b'*' || byte == b'%'
+}
+
+// The place of the last slash before all wildcards.
+fn fixed_front(pattern: &[u8]) -> Option<usize>
+    ensures within { IfSome result (λ place. place < length pattern.now) }
+    ensures front { option_map (λ place. take place pattern.now) result ≡ fixed_front pattern.now }
+{
+    let mut found = None;
+    for place in 0..pattern.len() {
+        if is_wild(pattern[place]) {
+            return found;
+        }
+        if pattern[place] == b'/' {
+            found = Some(place);
+        }
+    }
+    found
+}
+
 fn upper(byte: u8) -> u8
     ensures { result ≡ upper byte }
 {
@@ -163,6 +220,24 @@ impl Pattern {
             return true;
         }
         name == b"INBOX".as_slice() && fits(self.capitals.as_slice(), b"INBOX")
+    }
+
+    /// Whether names that begin with a text may match: some beginning of the pattern matches the text.
+    pub fn leads(&self, text: &[u8]) -> bool
+        requires { length text.now ≤ 256 }
+        ensures { result ≡ leads self.now text.now }
+    {
+        leads(self.text.as_slice(), text)
+    }
+
+    /// What all names that match begin with, if it is a directory: the text before the last slash that stands before all wildcards.
+    pub fn front(&self) -> Option<&[u8]>
+        ensures { option_map (λ (front : Bor (List ℕ)). front.now) result ≡ fixed_front self.now }
+    {
+        match fixed_front(self.text.as_slice()) {
+            Some(place) => Some(&self.text.as_slice()[..place]),
+            None => None,
+        }
     }
 
     /// Whether it asks for the directories above names too.

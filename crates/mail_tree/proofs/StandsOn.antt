@@ -1,0 +1,222 @@
+-- An open mailbox stands on through a call of the tree on another name.
+use Rattle.std.proofs.Common.{◌≡◌, ◌≢◌, ⊎_elim, ℕ, List, [], ◌∷◌, Bool, true, false, cond, not, ◌&&◌, Option, Some, None, refl, sym, ◌∙◌, ap, subst}
+use Rattle.std.specs.Prelude.{is_some}
+use Rattle.std.specs.FinMap.{get, keys, insert, remove, get-remove}
+use Rattle.std.proofs.lemmas.Bool.{false≢true, and_parts}
+use Rattle.std.proofs.lemmas.Cmp.{nat_list_cmp_total}
+use Rattle.file_model.specs.Disk.{Disk, seen}
+use Rattle.file_model.specs.Images.{Image, nothing, file, node_at}
+use Rattle.file_model.specs.Paths.{child, is_inside}
+use Rattle.file_model.proofs.Inside.{child_inside}
+use Rattle.file_model.proofs.Names.{other_path}
+use Rattle.mail_types.specs.declared.driver.Driver.{Driver}
+use Rattle.mail_types.specs.declared.driver.Driver.TheVariants.{Unix, Mmdf, Mbx, Mtx, Tenex, Mh, Mix}
+use Rattle.store_trait.specs.Laws.{IsReading, IsView}
+use Rattle.store_trait.specs.Meaning.{AgreeAt}
+use Rattle.store_trait.specs.OwnPaths.{is_directory_driver, IsNoPath, MayClear, RestsOn}
+use Rattle.store_trait.specs.Touching.{SeesBut}
+use Rattle.store_trait.specs.Views.{View}
+use Rattle.store_trait.proofs.Grammars.{written_stays}
+use Rattle.store_trait.proofs.Touched.{IsBut, sees_but}
+use Rattle.any_store.specs.Choice.{Formats}
+use Rattle.any_store.proofs.Lengths.{none_passes}
+use Rattle.mail_tree.specs.declared.fault.TreeFault.TheVariants.{Absent, HasChildren}
+use Rattle.mail_tree.specs.Changes.{empty_directory, put_missing, with_parents, created_node, created_tree, tree_with_directory, delete_refusal, deleted_nodes, deleted_tree}
+use Rattle.mail_tree.specs.Changing.{Placed, IsMailboxAt}
+use Rattle.mail_tree.specs.Mailboxes.{HasMailboxOf}
+use Rattle.mail_tree.specs.Names.{prefixes}
+use Rattle.mail_tree.specs.Promises.{IsDeletable, IsMadeAbove, IsMadeAt, IsMadeFor}
+use Rattle.mail_tree.specs.Trees.{Directory, TreeNode, unknown_file, file_mailbox, folder, Nodes, Tree, HasTree, IsNodeOf, has_inside, is_free, is_message, is_plain, is_plain_directory, sees, seen_node}
+use Rattle.mail_tree.proofs.Below.{one_below, child_below}
+use Rattle.mail_tree.proofs.ChangedFile.{path_apart}
+use Rattle.mail_tree.proofs.Emptied.{plain_refusal}
+use Rattle.mail_tree.proofs.Followed.{IsFileSeen, file_seen}
+use Rattle.mail_tree.proofs.FreeDirectory.{key_in}
+use Rattle.mail_tree.proofs.Made.{get_put_other}
+use Rattle.mail_tree.proofs.OneFile.{may_clear, no_home}
+use Rattle.mail_tree.proofs.Sighted.{all_same, sees_front}
+
+-- ---- On another image
+
+-- it stands for the same where what it rests on is the same, and its node is
+pub kept_at : (formats : Formats) → ((driver : Driver) → IsReading driver formats.forms) → (root : List ℕ) (view : View) → IsView formats.forms view → (one other : Image) (tree later : Tree) (m : Placed) → IsMailboxAt formats root view one tree m
+    → AgreeAt (RestsOn view.driver view.path) other one → HasTree formats root other later → seen_node later.nodes m.name ≡ seen_node tree.nodes m.name → IsMailboxAt formats root view other later m
+kept_at formats reads root view law one other tree later m at agree has same = record {
+  tree_seen = has;
+  store = record {
+    driver = at.store.driver;
+    path = at.store.path;
+    works = at.store.works;
+    stands = stays.0;
+    mailbox = stays.1 ∙ at.store.mailbox;
+    written = (at.store.written.0, written_stays formats.forms m.driver (reads m.driver) (child root m.name) one other m.contents at.store.written.0 (subst (λ p. AgreeAt (RestsOn m.driver p) other one) at.store.path (subst (λ d. AgreeAt (RestsOn d view.path) other one) at.store.driver agree)) at.store.written.1);
+  };
+  in_tree = subst (HasMailboxOf m.driver) (sym same) at.in_tree;
+}
+  where
+    stays : view.stands other × (view.mailbox other ≡ view.mailbox one)
+    stays = law.stays one other agree at.store.stands
+
+-- a mailbox of one file rests on it alone
+rests_is : (driver : Driver) (path q : List ℕ) → is_directory_driver driver ≡ false → RestsOn driver path q → q ≡ path
+rests_is Unix path q one is = is
+rests_is Mmdf path q one is = is
+rests_is Mbx path q one is = is
+rests_is Mtx path q one is = is
+rests_is Tenex path q one is = is
+rests_is Mh path q one is = absurd (false≢true (sym one))
+rests_is Mix path q one is = absurd (false≢true (sym one))
+
+-- ---- On another tree
+
+-- all nodes but one are there again, and that one isn't above the name
+seen_again : (tree later : Tree) (m name : List ℕ) → sees tree.nodes m ≡ true → m ≢ name → ((rest : List ℕ) → m ≡ child name rest → ⊥) → ((q : List ℕ) → q ≢ name → is_some (get tree.nodes q) ≡ true → get later.nodes q ≡ get tree.nodes q)
+    → is_some (get tree.nodes m) ≡ true → seen_node later.nodes m ≡ seen_node tree.nodes m
+seen_again tree later m name seen apart not_front same some =
+    ap (λ b. cond b (get later.nodes m) None) (fronts ∙ seen) ∙ same m apart some ∙ sym (ap (λ b. cond b (get tree.nodes m) None) seen)
+  where
+    plain_some : (o : Option TreeNode) → is_plain o ≡ true → is_some o ≡ true
+    plain_some None plain = plain
+    plain_some (Some n) plain = refl
+
+    fronts : sees later.nodes m ≡ sees tree.nodes m
+    fronts = all_same (λ q. is_plain (get later.nodes q)) (λ q. is_plain (get tree.nodes q)) m
+        (λ q rest whole. ap is_plain (same q (λ here. not_front rest (whole ∙ ap (λ l. child l rest) here)) (plain_some (get tree.nodes q) (sees_front tree.nodes m q rest seen whole))))
+
+missing_kept : (paths : List (List ℕ)) (nodes : Nodes) (q : List ℕ) → is_some (get nodes q) ≡ true → get (put_missing paths nodes) q ≡ get nodes q
+missing_kept [] nodes q some = refl
+missing_kept (p ∷ paths) nodes q some = missing_kept paths (cond (is_some (get nodes p)) nodes (insert nodes p (folder empty_directory))) q (ap is_some here ∙ some) ∙ here
+  where
+    at : (b : Bool) → is_some (get nodes p) ≡ b → get (cond b nodes (insert nodes p (folder empty_directory))) q ≡ get nodes q
+    at true e = refl
+    at false e = get_put_other nodes p (folder empty_directory) q (λ same. false≢true (sym e ∙ ap (λ z. is_some (get nodes z)) (sym same) ∙ some))
+
+    here : get (cond (is_some (get nodes p)) nodes (insert nodes p (folder empty_directory))) q ≡ get nodes q
+    here = at (is_some (get nodes p)) refl
+
+-- a new node at a name where none was
+put_kept : (tree : Tree) (name : List ℕ) (n : TreeNode) (q : List ℕ) → q ≢ name → is_some (get tree.nodes q) ≡ true → get (insert (with_parents name tree.nodes) name n) q ≡ get tree.nodes q
+put_kept tree name n q apart some = get_put_other (with_parents name tree.nodes) name n q apart ∙ missing_kept (prefixes name) tree.nodes q some
+
+deleted_kept : (nodes : Nodes) (name : List ℕ) (o : Option TreeNode) (q : List ℕ) → q ≢ name → get (deleted_nodes nodes name o) q ≡ get nodes q
+deleted_kept nodes name o q apart = at o
+  where
+    gone : get (remove nodes name) q ≡ get nodes q
+    gone = get-remove nat_list_cmp_total nodes name q ∙ ap (λ b. cond b None (get nodes q)) (other_path name q apart)
+
+    left : (b : Bool) (d : Directory) → get (cond b (remove nodes name) (insert nodes name (folder d))) q ≡ get nodes q
+    left true d = gone
+    left false d = get_put_other nodes name (folder d) q apart
+
+    either : (b : Bool) (left_nodes : Nodes) → get left_nodes q ≡ get nodes q → get (cond b (remove nodes name) left_nodes) q ≡ get nodes q
+    either true left_nodes same = gone
+    either false left_nodes same = same
+
+    at : (o : Option TreeNode) → get (deleted_nodes nodes name o) q ≡ get nodes q
+    at None = refl
+    at (Some unknown_file) = refl
+    at (Some (file_mailbox driver meaning)) = gone
+    at (Some (folder d)) = either (is_plain_directory d) _ (left _ _)
+
+-- ---- Through a call
+
+module _ (formats : Formats) (reads : (driver : Driver) → IsReading driver formats.forms) (root : List ℕ) (view : View) (law : IsView formats.forms view) (one : is_directory_driver view.driver ≡ false) (a b : Disk) (tree : Tree) (m : Placed)
+    (at : IsMailboxAt formats root view (seen a) tree m) where
+  shown : IsFileSeen tree m.name
+  shown = file_seen formats root (seen a) tree m.name m.driver at.tree_seen (ap is_directory_driver (sym at.store.driver) ∙ one) at.in_tree
+
+  some_node : is_some (get tree.nodes m.name) ≡ true
+  some_node = ap is_some shown.node.is
+
+  -- a call that leaves its file alone
+  through : (files free : List ℕ → Type 0) → IsBut files free (child root m.name) → SeesBut files free a b → (later : Tree) → HasTree formats root (seen b) later → seen_node later.nodes m.name ≡ seen_node tree.nodes m.name
+      → IsMailboxAt formats root view (seen b) later m
+  through files free apart sees later has same =
+      kept_at formats reads root view law (seen a) (seen b) tree later m at
+      (λ q rests. let here : q ≡ child root m.name = rests_is view.driver view.path q one rests ∙ at.store.path in
+      subst (λ r. node_at (seen b) r ≡ node_at (seen a) r) (sym here) ((sees_but files free a b sees).each (child root m.name) apart)) has same
+
+  -- what is above a name where nothing stood was nothing too, or stood
+  stands_here : node_at (seen a) (child root m.name) ≡ nothing → ⊥
+  stands_here none = file_there (get tree.nodes m.name) shown.node.is (at.tree_seen.nodes m.name shown.is_path).is
+    where
+      no_file : (bytes : List ℕ) → file bytes ≡ nothing → ⊥
+      no_file bytes h = cc
+
+      file_there : (o : Option TreeNode) → o ≡ Some (file_mailbox shown.node.driver shown.node.meaning) → IsNodeOf formats (child root m.name) (seen a) (is_message root (seen a) m.name) o → ⊥
+      file_there o same node =
+          let is = subst (IsNodeOf formats (child root m.name) (seen a) (is_message root (seen a) m.name)) same node in
+          no_file is.1.0 (sym is.1.1 ∙ none)
+
+  not_made : (name : List ℕ) → IsMadeAbove root name a (child root m.name) → ⊥
+  not_made name above = stands_here above.absent
+
+  module _ (name : List ℕ) (none : get tree.nodes name ≡ None) where
+    other_name : m.name ≢ name
+    other_name same = false≢true (sym (ap is_some none) ∙ ap (λ z. is_some (get tree.nodes z)) (sym same) ∙ some_node)
+
+    not_above : (rest : List ℕ) → m.name ≡ child name rest → ⊥
+    not_above rest whole = false≢true (sym (ap is_plain none) ∙ sees_front tree.nodes m.name name rest shown.seen whole)
+
+    -- where a mailbox is made at another name
+    pub through_create : (driver : Driver) (fresh : ℕ) → is_directory_driver driver ≡ false → SeesBut (MayClear driver (child root name)) (IsMadeFor driver root name a) a b → HasTree formats root (seen b) (created_tree tree name driver fresh)
+        → IsMailboxAt formats root view (seen b) (created_tree tree name driver fresh) m
+    through_create driver fresh file_driver sees has =
+        through (MayClear driver (child root name)) (IsMadeFor driver root name a) (
+          (λ may. ⊎_elim (λ same. other_name (one_below root m.name name same)) (path_apart root name m.name shown.is_path) (may_clear driver (child root name) (child root m.name) file_driver may)),
+          (λ made. ⊎_elim (no_home driver (child root name) (child root m.name) file_driver) (not_made name) made),
+        )
+        sees (created_tree tree name driver fresh) has
+        (seen_again tree (created_tree tree name driver fresh) m.name name shown.seen other_name not_above (λ q apart some. put_kept tree name (created_node driver fresh) q apart some) some_node)
+
+    -- or a directory
+    pub through_create_dir : SeesBut IsNoPath (IsMadeAt root name a) a b → HasTree formats root (seen b) (tree_with_directory tree name) → IsMailboxAt formats root view (seen b) (tree_with_directory tree name) m
+    through_create_dir sees has =
+        through IsNoPath (IsMadeAt root name a) ((λ never. never), (λ made. ⊎_elim (λ same. other_name (one_below root m.name name same)) (not_made name) made))
+        sees (tree_with_directory tree name) has
+        (seen_again tree (tree_with_directory tree name) m.name name shown.seen other_name not_above (λ q apart some. put_kept tree name (folder empty_directory) q apart some) some_node)
+
+  -- where another name is deleted
+  module _ (name : List ℕ) (other : m.name ≢ name) (due : delete_refusal tree.nodes name (seen_node tree.nodes name) ≡ None) where
+    not_below : (rest : List ℕ) → m.name ≡ child name rest → ⊥
+    not_below rest whole = by_node (get tree.nodes name) refl (sees_front tree.nodes m.name name rest shown.seen whole)
+      where
+        inside_name : has_inside tree.nodes name ≡ false → ⊥
+        inside_name none = none_passes (is_inside name) (keys tree.nodes) m.name none (key_in tree.nodes m.name some_node) (ap (is_inside name) whole ∙ child_inside name rest)
+
+        absent : Some Absent ≡ None → ⊥
+        absent h = cc
+
+        children : Some HasChildren ≡ None → ⊥
+        children h = cc
+
+        seen_name : (n : Option TreeNode) → get tree.nodes name ≡ n → delete_refusal tree.nodes name n ≡ None
+        seen_name n here = at_sees (sees tree.nodes name) refl
+          where
+            at_sees : (t : Bool) → sees tree.nodes name ≡ t → delete_refusal tree.nodes name n ≡ None
+            at_sees true e = ap (delete_refusal tree.nodes name) (sym (ap (λ t. cond t (get tree.nodes name) None) e ∙ here)) ∙ due
+            at_sees false e = absurd (absent (sym (ap (λ t. delete_refusal tree.nodes name (cond t (get tree.nodes name) None)) e) ∙ due))
+
+        free_of : (d : Directory) (t : Bool) → is_free tree.nodes name d ≡ t → cond t None (Some HasChildren) ≡ None → has_inside tree.nodes name ≡ false
+        free_of d true e none = was (has_inside tree.nodes name) (and_parts (is_plain_directory d && not d.other) (not (has_inside tree.nodes name)) e).1
+          where
+            was : (t : Bool) → not t ≡ true → t ≡ false
+            was true h = absurd (false≢true h)
+            was false h = refl
+        free_of d false e none = absurd (children none)
+
+        by_node : (n : Option TreeNode) → get tree.nodes name ≡ n → is_plain n ≡ true → ⊥
+        by_node None here plain = false≢true plain
+        by_node (Some unknown_file) here plain = false≢true plain
+        by_node (Some (file_mailbox driver meaning)) here plain = false≢true plain
+        by_node (Some (folder d)) here plain = inside_name (free_of d (is_free tree.nodes name d) refl (sym (plain_refusal tree.nodes name d plain) ∙ seen_name (Some (folder d)) here))
+
+    pub through_delete : SeesBut (IsDeletable (child root name)) (λ q. q ≡ child root name) a b → HasTree formats root (seen b) (deleted_tree tree name) → IsMailboxAt formats root view (seen b) (deleted_tree tree name) m
+    through_delete sees has =
+        through (IsDeletable (child root name)) (λ q. q ≡ child root name) (
+          (λ may. ⊎_elim (λ same. other (one_below root m.name name same))
+              (λ more. ⊎_elim (path_apart root name m.name shown.is_path) (λ named. not_below named.name (one_below root m.name (child name named.name) (named.whole ∙ child_below root name named.name))) more) may),
+          (λ same. other (one_below root m.name name same)),
+        )
+        sees (deleted_tree tree name) has
+        (seen_again tree (deleted_tree tree name) m.name name shown.seen other not_below (λ q apart some. deleted_kept tree.nodes name (get tree.nodes name) q apart) some_node)
