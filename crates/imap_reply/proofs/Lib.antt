@@ -1,3 +1,5 @@
+pub mod Bytes
 pub mod Examples
 pub mod Lines
+pub mod Putting
 pub mod Steps

@@ -30,8 +30,12 @@ next_rest items i = ap (λ n. drop n items) (plus i)
     plus i = omega arith
 
 -- the item at a place, and those behind it
-next_at : {A : Type 0} (items : List A) (i : ℕ) (least : A) → i < length items → drop i items ≡ get_or items i least ∷ drop (i + 1) items
+pub next_at : {A : Type 0} (items : List A) (i : ℕ) (least : A) → i < length items → drop i items ≡ get_or items i least ∷ drop (i + 1) items
 next_at items i least within = drop-cons items i least within ∙ ap (λ l. get_or items i least ∷ l) (next_rest items i)
+
+-- the same by what stands at the place
+pub next_item : {A : Type 0} (items : List A) (i : ℕ) (item : A) → i < length items → item ≡ get_or items i item → drop i items ≡ item ∷ drop (i + 1) items
+next_item items i item within is = next_at items i item within ∙ ap (λ x. x ∷ drop (i + 1) items) (sym is)
 
 -- the bytes of items: of those before a place, of that at it, and of those behind
 pub flat_at : {A : Type 0} (f : A → List ℕ) (items : List A) (i : ℕ) (least : A) → i < length items → (flat_map f (take i items) ++ f (get_or items i least)) ++ flat_map f (drop (i + 1) items) ≡ flat_map f items

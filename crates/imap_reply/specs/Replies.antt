@@ -4,6 +4,7 @@ use Rattle.imap_reply.specs.declared.reply.Reply.{Reply}
 use Rattle.imap_reply.specs.declared.reply.Reply.TheVariants as reply
 use Rattle.imap_reply.specs.Texts.{behind_spaces, in_parentheses, text_if, system_flags, every_system_flag, name_text, count_text, words_text, no_text, reason_text}
 
+-- the end of a line
 abbrev pub crlf : List ℕ
 crlf = codes "\r\n"
 
@@ -15,12 +16,15 @@ tagged tag text = tag ++ (codes " " ++ (text ++ crlf))
 abbrev pub untagged : List ℕ → List ℕ
 untagged text = codes "* " ++ (text ++ crlf)
 
+-- the mark of a plain directory, and that of anything else
 abbrev pub list_mark : Bool → List ℕ
 list_mark directory = if directory then codes "\\Noselect" else codes "\\NoInferiors"
 
+-- the mark of a name that isn't subscribed and leads to subscribed ones
 abbrev pub lsub_mark : Bool → List ℕ
 lsub_mark leads = if leads then codes "\\Noselect" else []
 
+-- the bytes of a line
 abbrev pub reply_bytes : Reply → List ℕ
 reply_bytes reply.Greeting = untagged (codes "PREAUTH [CAPABILITY IMAP4rev1] ready")
 reply_bytes reply.Announce = codes "+ Ready\r\n"

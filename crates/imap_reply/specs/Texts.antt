@@ -33,11 +33,13 @@ has_texts (text ∷ texts) = true
 abbrev pub behind_some : (some : Bool) → List (List ℕ) → List ℕ
 behind_some some texts = if some then behind_spaces texts else spaced texts
 
+-- such texts in parentheses
 abbrev pub in_parentheses : List (List ℕ) → List ℕ
 in_parentheses texts = codes "(" ++ (spaced texts ++ codes ")")
 
 -- ---- Flags
 
+-- a text, where it is to stand
 abbrev pub text_if : Bool → List ℕ → List (List ℕ)
 text_if set text = if set then text ∷ [] else []
 
@@ -51,6 +53,7 @@ system_flags flags =
 abbrev pub has_some : Flags → Bool
 has_some flags = flags.seen || (flags.answered || (flags.flagged || (flags.deleted || flags.draft)))
 
+-- all system flags that a client can set
 abbrev pub every_system_flag : List (List ℕ)
 every_system_flag = codes "\\Seen" ∷ codes "\\Answered" ∷ codes "\\Flagged" ∷ codes "\\Deleted" ∷ codes "\\Draft" ∷ []
 
@@ -60,6 +63,7 @@ every_system_flag = codes "\\Seen" ∷ codes "\\Answered" ∷ codes "\\Flagged" 
 abbrev pub name_text : List ℕ → List ℕ
 name_text name = if list_all is_atom name then name else codes "\"" ++ name ++ codes "\""
 
+-- a driver's name
 abbrev pub driver_word : Driver → List ℕ
 driver_word drivers.Unix = codes "unix"
 driver_word drivers.Mmdf = codes "mmdf"
@@ -69,6 +73,7 @@ driver_word drivers.Tenex = codes "tenex"
 driver_word drivers.Mh = codes "mh"
 driver_word drivers.Mix = codes "mix"
 
+-- the word of an item of STATUS
 abbrev pub item_word : StatusItem → List ℕ
 item_word items.Messages = codes "MESSAGES"
 item_word items.Recent = codes "RECENT"
@@ -76,11 +81,13 @@ item_word items.UidNext = codes "UIDNEXT"
 item_word items.UidValidity = codes "UIDVALIDITY"
 item_word items.Unseen = codes "UNSEEN"
 
+-- an item of STATUS and its number
 abbrev pub count_text : StatusItem × ℕ → List ℕ
 count_text count = item_word count.0 ++ codes " " ++ decimal count.1
 
 -- ---- Words of the last line
 
+-- the command that was done
 abbrev pub words_text : Words → List ℕ
 words_text words.Capability = codes "CAPABILITY"
 words_text words.Noop = codes "NOOP"
@@ -121,10 +128,12 @@ plain_text no.MessageTooLarge = codes "message too large"
 plain_text no.TooManyMessages = codes "too many messages"
 plain_text no.NoUid = codes "no UID left"
 
+-- the same with that count
 abbrev pub no_text : NoText → List ℕ
 no_text (no.IllFormed driver records) = codes "ill-formed " ++ (driver_word driver ++ (codes " store after " ++ (decimal records ++ codes " records")))
 no_text why = plain_text why
 
+-- the text at a place of a list
 abbrev pub text_at : ℕ → List (List ℕ) → List ℕ
 text_at n [] = []
 text_at zero (text ∷ texts) = text
