@@ -5,3 +5,9 @@
 mod calls;
 #[cfg(test)]
 mod mbx;
+#[cfg(test)]
+mod sequences;
+#[cfg(test)]
+mod steps;
+#[cfg(test)]
+mod unix;

@@ -1,27 +1,19 @@
 //! mbx files.
-use crate::calls::{
-    PATH, append, expunge, made, not_open, opened, read_text, refused, set_flags, told,
+use crate::calls::{PATH, made, opened, refused, told};
+use crate::sequences::run_three;
+use crate::steps::{
+    answer, cut, fails_once, host_of, is_text, number, open_store, opening_fails, run, shown_fault,
+    step,
 };
 use bare_host::BareHost;
 use mail_types::Driver;
 use mbx_store::MbxStore;
 use std::alloc::{AllocError, Global};
 use std::test::Fail;
-use store_trait::{OpenFault, Store};
+use store_trait::OpenFault;
 use test_tables::{Row, rows};
 
 // ---- Files, as cells have them
-
-// What stands before the first `|` of a cell, and what behind it.
-fn cut(cell: &[u8]) -> (&[u8], &[u8]) {
-    match cell.iter().position(|byte| *byte == b'|') {
-        Some(at) => (
-            cell.get(..at).unwrap_or(&[]),
-            cell.get(at..).unwrap_or(&[]).get(1..).unwrap_or(&[]),
-        ),
-        None => (cell, &[]),
-    }
-}
 
 // Lines for names that have commas between them, and how many they are.
 fn put_names(out: &mut Vec<u8>, names: &[u8]) -> Result<usize, AllocError> {
@@ -57,47 +49,11 @@ fn file_of(alloc: Global, header: &[u8], records: &[u8]) -> Result<Vec<u8>, Allo
 
 // ---- Changes
 
-fn digit(bytes: &[u8], at: usize) -> u8 {
-    match bytes.get(at) {
-        Some(byte) => byte.wrapping_sub(b'0'),
-        None => 0,
-    }
-}
-
-// `+` and a text appends it; `-` and a place removes the message there; `=`, a place, a digit of flags and one of keywords sets them.
-fn step(alloc: Global, store: &mut MbxStore, host: &mut BareHost, call: &[u8]) -> Result<(), Fail> {
-    match call.first() {
-        Some(b'+') => append(alloc, store, host, call.get(1..).unwrap_or(&[])),
-        Some(b'-') => expunge(store, host, usize::from(digit(call, 1))),
-        _ => set_flags(
-            alloc,
-            store,
-            host,
-            usize::from(digit(call, 1)),
-            u16::from(digit(call, 2)),
-            u32::from(digit(call, 3)),
-        ),
-    }
-}
-
-// The file after the calls of a row, which have `;` between them.
-fn run(alloc: Global, host: &mut BareHost, calls: &[u8]) -> Result<(), Fail> {
-    let mut store = match opened(alloc, host) {
-        Ok(store) => store,
-        Err(fault) => return Err(not_open(fault)),
-    };
-    for call in calls.split(|byte| *byte == b';') {
-        step(alloc, &mut store, host, call)?;
-    }
-    Ok(())
-}
-
 fn changes(alloc: Global, row: &Row) -> Result<(), Fail> {
-    let mut host = BareHost::new(alloc);
     let (header, rest) = cut(row.text.as_slice());
     let (records, calls) = cut(rest);
-    host.put_file(PATH, file_of(alloc, header, records)?.as_slice())?;
-    run(alloc, &mut host, calls)?;
+    let mut host = host_with(alloc, header, records)?;
+    run::<MbxStore>(alloc, &mut host, calls)?;
     let (header, records) = cut(row.expected.as_slice());
     let expected = file_of(alloc, header, records)?;
     let found = host.file(PATH).unwrap_or(&[]);
@@ -110,9 +66,14 @@ fn changes(alloc: Global, row: &Row) -> Result<(), Fail> {
 const CHANGES: &str = r#"
 # an append to an empty mailbox, and to one with a message in an odd spelling, which is spelled anew
 0000001200000000Work||+hi => 0000001200000001Work| 1-Jan-2024 01:02:03 +0200,2;000000010001-00000001\r\nhi
+0000001200000000||+Subject: z\r\r\n\r\r\nhi => 0000001200000001| 1-Jan-2024 01:02:03 +0200,18;000000000001-00000001\r\nSubject: z\r\r\n\r\r\nhi
+0000001200000000||+ => 0000001200000001| 1-Jan-2024 01:02:03 +0200,0;000000000001-00000001\r\n
 0000001200000005Work|02-aPR-2024 08:00:00 -0000,002;000000010010-00000005\r\nhi|+abc => 0000001200000006Work| 2-Apr-2024 08:00:00 +0000,2;000000010010-00000005\r\nhi 1-Jan-2024 01:02:03 +0200,3;000000010001-00000006\r\nabc
 # a record with flag bits 8001 is no message, and its bytes stand after an append
 0000001200000005Work|02-jan-2024 00:00:00 -0000,02;00000000800A-0000000A\r\nn\0|+x => 0000001200000006Work|02-jan-2024 00:00:00 -0000,02;00000000800A-0000000A\r\nn\0 1-Jan-2024 01:02:03 +0200,1;000000010001-00000006\r\nx
+# a name that is new clears its bit in older records, and is set by its number
+0000001200000005Work| 2-Apr-2024 08:00:00 +0200,2;000000070041-00000005\r\nhi|!b => 0000001200000005Work,b| 2-Apr-2024 08:00:00 +0200,2;000000050041-00000005\r\nhi
+0000001200000005| 2-Apr-2024 08:00:00 +0200,2;000000000000-00000005\r\nhi|!a;!b;=0o2 => 0000001200000005a,b| 2-Apr-2024 08:00:00 +0200,2;00000002003f-00000005\r\nhi
 # keyword bits past the list and other flag bits stay with their message
 0000001200000005Work| 2-Apr-2024 08:00:00 +0200,2;000000050041-00000005\r\nhi|=002 => 0000001200000005Work| 2-Apr-2024 08:00:00 +0200,2;000000040040-00000005\r\nhi
 0000001200000005Work| 2-Apr-2024 08:00:00 +0200,2;000000050041-00000005\r\nhi|=021;+x => 0000001200000006Work| 2-Apr-2024 08:00:00 +0200,2;000000050042-00000005\r\nhi 1-Jan-2024 01:02:03 +0200,1;000000010001-00000006\r\nx
@@ -142,7 +103,7 @@ const MADE: &str = r#"
 fn makes(alloc: Global, row: &Row) -> Result<(), Fail> {
     let mut host = BareHost::new(alloc);
     host.put_dir("/m")?;
-    let mut store = match made(alloc, &mut host) {
+    let mut store: MbxStore = match made(alloc, &mut host) {
         Ok(store) => store,
         Err(fault) => return Err(refused(fault)),
     };
@@ -150,7 +111,9 @@ fn makes(alloc: Global, row: &Row) -> Result<(), Fail> {
     if host.file(PATH) != Some(empty.as_slice()) {
         return Err(Fail::new("another empty file"));
     }
-    step(alloc, &mut store, &mut host, row.text.as_slice())?;
+    if let Err(fault) = step(alloc, &mut store, &mut host, row.text.as_slice())? {
+        return Err(refused(fault));
+    }
     let (header, records) = cut(row.expected.as_slice());
     let expected = file_of(alloc, header, records)?;
     if host.file(PATH) == Some(expected.as_slice()) {
@@ -198,8 +161,7 @@ fn cuts(alloc: Global, row: &Row) -> Result<(), Fail> {
     let (header, records) = cut(row.text.as_slice());
     let bytes = file_of(alloc, header, records)?;
     for long in 0..2162 {
-        let mut host = BareHost::new(alloc);
-        host.put_file(PATH, bytes.as_slice().get(..long).unwrap_or(&[]))?;
+        let mut host = host_of(alloc, bytes.as_slice().get(..long).unwrap_or(&[]))?;
         if !is_cut_so(opened(alloc, &mut host), long) {
             return Err(Fail::new(format_args!("a file of {long} bytes")));
         }
@@ -223,21 +185,61 @@ const TOLD: &str = r#"
 0000000000000000| 2-Apr-2024 08:00:00 +0200,1;000000000000-00000000\r\na => 77 1 1.0.0.1
 # bits past the list and marked records aren't shown; names stop at one that stands twice
 0000001200000009Work,b,wORK,c| 2-Apr-2024 08:00:00 +0200,2;0000000700FF-00000005\r\nhi02-jan-2024 00:00:00 -0000,02;000000008000-0000000A\r\nno 2-Apr-2024 08:00:00 +0200,0;000000000000-00000009\r\n => 18 9 Work b 5.63.3.2 9.0.0.0
-# one good record before one whose size passes the end
-0000001200000005Work| 2-Apr-2024 08:00:00 +0200,6;000000000000-00000001\r\nabcdef 2-Apr-2024 08:00:00 +0200,6;000000000000-00000001\r\nabcde => ill-formed store
+# the list of names ends at a line that is none, and numbers have either case
+0000001A0000000bWork,a(b,c| 2-Apr-2024 08:00:00 +0200,0;000000070000-00000005\r\n => 26 11 Work 5.0.1.0
+0000001200000005,b| 2-Apr-2024 08:00:00 +0200,0;000000030000-00000005\r\n => 18 5 5.0.0.0
+0000001200000005\(64:k\),\(65:k\)| => 18 5 \(64:k\)
+0000001200000005a,b,c,d,e,f,g,h,i,j,k,l,m,n,o,p,q,r,s,t,u,v,w,x,y,z,0,1,2,3| 2-Apr-2024 08:00:00 +0200,0;ffffffff0000-00000005\r\n => 18 5 a b c d e f g h i j k l m n o p q r s t u v w x y z 0 1 2 3 5.0.1073741823.0
+0000001200000005\(2020:k\)| => ill-formed after 0
+0000001g00000005| => ill-formed after 0
+00000012 0000005| => ill-formed after 0
+# UIDs that repeat, fall, or stand behind a message without one are given anew; a run without UIDs gets the next ones
+0000001200000005| 2-Apr-2024 08:00:00 +0200,0;000000000000-00000005\r\n 2-Apr-2024 08:00:00 +0200,0;000000000000-00000005\r\n => 77 2 1.0.0.0 2.0.0.0
+0000001200000005| 2-Apr-2024 08:00:00 +0200,0;000000000000-00000005\r\n 2-Apr-2024 08:00:00 +0200,0;000000000000-00000004\r\n => 77 2 1.0.0.0 2.0.0.0
+0000001200000005| 2-Apr-2024 08:00:00 +0200,0;000000000000-00000000\r\n 2-Apr-2024 08:00:00 +0200,0;000000000000-00000005\r\n => 77 2 1.0.0.0 2.0.0.0
+0000001200000005| 2-Apr-2024 08:00:00 +0200,0;000000000000-00000003\r\n 2-Apr-2024 08:00:00 +0200,0;000000000000-00000000\r\n 2-Apr-2024 08:00:00 +0200,0;000000000000-00000000\r\n => 18 7 3.0.0.0 6.0.0.0 7.0.0.0
+0000001200000005| 2-Apr-2024 08:00:00 +0200,0;000000000000-ffffffff\r\n => 18 4294967295 4294967295.0.0.0
+0000001200000005| 2-Apr-2024 08:00:00 +0200,0;000000000000-fffffffe\r\n 2-Apr-2024 08:00:00 +0200,0;000000000000-00000000\r\n => 77 2 1.0.0.0 2.0.0.0
+0000001200000005| 2-Apr-2024 08:00:00 +0200,0;000000008000-00000003\r\n 2-Apr-2024 08:00:00 +0200,0;000000000000-00000002\r\n => 18 5 2.0.0.0
+# spellings of a head
+0000001200000005|02-aPR-2024 08:00:00 -0000,0000000001;ABCDEF007FFF-0000000A\r\na => 18 10 10.63.0.1
+0000001200000005|29-Feb-2024 23:59:59 +2359,0;000000000000-00000001\r\n => 18 5 1.0.0.0
+# heads that are none
+0000001200000005|2-Apr-2024 08:00:00 +0200,0;000000000000-00000001\r\n => ill-formed after 0
+0000001200000005|31-Apr-2024 08:00:00 +0200,0;000000000000-00000001\r\n => ill-formed after 0
+0000001200000005|29-Feb-2023 08:00:00 +0200,0;000000000000-00000001\r\n => ill-formed after 0
+0000001200000005| 2-Apr-2024 24:00:00 +0200,0;000000000000-00000001\r\n => ill-formed after 0
+0000001200000005| 2-Apr-2024 08:00:00 +2400,0;000000000000-00000001\r\n => ill-formed after 0
+0000001200000005| 2-Apr-2024 08:00:00 +0260,0;000000000000-00000001\r\n => ill-formed after 0
+0000001200000005| 2-Apr-2024 08:00:00 CET,0;000000000000-00000001\r\n => ill-formed after 0
+0000001200000005| 2-Apr-2024 08:00:00 +0200,;000000000000-00000001\r\n => ill-formed after 0
+0000001200000005| 2-Apr-2024 08:00:00 +0200,00000000000;000000000000-00000001\r\n => ill-formed after 0
+0000001200000005| 2-Apr-2024 08:00:00 +0200,-0;000000000000-00000001\r\n => ill-formed after 0
+0000001200000005| 2-Apr-2024 08:00:00 +0200,0;00000000000-00000001\r\n => ill-formed after 0
+0000001200000005| 2-Apr-2024 08:00:00 +0200,0;0000000g0000-00000001\r\n => ill-formed after 0
+0000001200000005| 2-Apr-2024 08:00:00 +0200,0;000000000000-0000001\r\n => ill-formed after 0
+0000001200000005| 2-Apr-2024 08:00:00 +0200,0;000000000000-00000001\n => ill-formed after 0
+0000001200000005| 2-Apr-2024 08:00:00 +0200,0;000000000000-00000001\r\r\n => ill-formed after 0
+0000001200000005| 2-Apr-2024 08:00:00 +0200,4294967297;000000000000-00000001\r\na => ill-formed after 0
+0000001200000005|x => ill-formed after 0
+# whole records before, of which marked ones are some
+0000001200000005| 2-Apr-2024 08:00:00 +0200,0;000000000000-00000001\r\nx => ill-formed after 1
+0000001200000005| 2-Apr-2024 08:00:00 +0200,2;000000008000-00000001\r\nno 2-Apr-2024 08:00:00 +0200,6;000000000000-00000002\r\nabcde => ill-formed after 1
+0000001200000005| 2-Apr-2024 08:00:00 +0200,0;000000000000-00000001\r\n 2-Apr-2024 08:00:00 +0200,2;000000008000-00000002\r\nno 2-Apr-2024 08:00:00 +0200,6;000000008000-00000003\r\nabcde => ill-formed after 2
+# a record whose size passes the end, and one good record before it
+0000001200000005Work| 2-Apr-2024 08:00:00 +0200,6;000000000000-00000001\r\nabcde => ill-formed after 0
+0000001200000005Work| 2-Apr-2024 08:00:00 +0200,6;000000000000-00000001\r\nabcdef 2-Apr-2024 08:00:00 +0200,6;000000000000-00000001\r\nabcde => ill-formed after 1
 "#;
 
 fn shown(alloc: Global, host: &mut BareHost) -> Result<Vec<u8>, AllocError> {
-    match opened(alloc, host) {
+    match opened::<MbxStore>(alloc, host) {
         Ok(store) => told(alloc, &store),
-        Err(fault) => Vec::from_slice(alloc, format!(in alloc; "{fault}")?.as_bytes()),
+        Err(fault) => shown_fault(alloc, fault),
     }
 }
 
 fn host_with(alloc: Global, header: &[u8], records: &[u8]) -> Result<BareHost, AllocError> {
-    let mut host = BareHost::new(alloc);
-    host.put_file(PATH, file_of(alloc, header, records)?.as_slice())?;
-    Ok(host)
+    host_of(alloc, file_of(alloc, header, records)?.as_slice())
 }
 
 // No more bytes are read than 4,096 and 256 for each record.
@@ -267,49 +269,13 @@ const TEXTS: &str = r#"
 0000001200000007| 2-Apr-2024 08:00:00 +0200,0;000000000000-00000005\r\n|0 => \e
 "#;
 
-// Whether a text is read so from a byte on, in a piece of a width.
-fn is_read_so(
-    store: &mut MbxStore,
-    host: &mut BareHost,
-    place: usize,
-    from: usize,
-    width: usize,
-    text: &[u8],
-) -> Result<bool, Fail> {
-    let mut buf = [0; 7];
-    let part = buf.get_mut(..width).unwrap_or(&mut []);
-    let count = read_text(store, host, place, from, part)?;
-    let rest = text.get(from..).unwrap_or(&[]);
-    Ok(count == rest.len().min(width) && buf.get(..count) == rest.get(..count))
-}
-
-fn is_text(
-    store: &mut MbxStore,
-    host: &mut BareHost,
-    place: usize,
-    text: &[u8],
-) -> Result<bool, Fail> {
-    for from in 0..text.len().saturating_add(1) {
-        let one = is_read_so(store, host, place, from, 1, text)?;
-        let two = is_read_so(store, host, place, from, 2, text)?;
-        let seven = is_read_so(store, host, place, from, 7, text)?;
-        if !(one && two && seven) {
-            return Ok(false);
-        }
-    }
-    Ok(true)
-}
-
 fn reads(alloc: Global, row: &Row) -> Result<(), Fail> {
     let (header, rest) = cut(row.text.as_slice());
     let (records, place) = cut(rest);
     let mut host = host_with(alloc, header, records)?;
-    let mut store = match opened(alloc, &mut host) {
-        Ok(store) => store,
-        Err(fault) => return Err(not_open(fault)),
-    };
+    let mut store = open_store::<MbxStore>(alloc, &mut host)?;
     let text = row.expected.as_slice();
-    if is_text(&mut store, &mut host, usize::from(digit(place, 0)), text)? {
+    if is_text(&mut store, &mut host, usize::from(number(place, 0)), text)? {
         return Ok(());
     }
     row.agrees(b"another text")
@@ -319,6 +285,86 @@ fn reads(alloc: Global, row: &Row) -> Result<(), Fail> {
 fn texts_are_read_in_pieces(rt: HostRuntime) -> Result<(), Fail> {
     for row in &rows(rt.alloc(), TEXTS)? {
         reads(rt.alloc(), row)?;
+    }
+    Ok(())
+}
+
+// ---- Refusals, and calls of the host that fail
+
+const REFUSED: &str = r#"
+# no UID is left behind the greatest one that is given, nor behind one past it
+00000012fffffffe||+x => no UID left
+00000012fffffffd||+x => done
+0000001200000005| 2-Apr-2024 08:00:00 +0200,1;000000000000-ffffffff\r\na|+x => no UID left
+0000001200000005| 2-Apr-2024 08:00:00 +0200,1;000000000000-ffffffff\r\na|-0 => done
+"#;
+
+fn refuses(alloc: Global, row: &Row) -> Result<(), Fail> {
+    let (header, rest) = cut(row.text.as_slice());
+    let (records, call) = cut(rest);
+    let mut host = host_with(alloc, header, records)?;
+    row.agrees(answer::<MbxStore>(alloc, &mut host, call)?.as_slice())
+}
+
+#[test]
+fn changes_are_refused(rt: HostRuntime) -> Result<(), Fail> {
+    for row in &rows(rt.alloc(), REFUSED)? {
+        refuses(rt.alloc(), row)?;
+    }
+    Ok(())
+}
+
+const FAILING: &str = r#"
+0000001200000000Work||+hi => 0000001200000001Work| 1-Jan-2024 01:02:03 +0200,2;000000010001-00000001\r\nhi
+0000001200000005Work| 2-Apr-2024 08:00:00 +0200,2;000000000000-00000005\r\nhi|=031 => 0000001200000005Work| 2-Apr-2024 08:00:00 +0200,2;000000010003-00000005\r\nhi
+0000001200000005Work| 2-Apr-2024 08:00:00 +0200,2;000000000000-00000005\r\nhi|!b => 0000001200000005Work,b| 2-Apr-2024 08:00:00 +0200,2;000000000000-00000005\r\nhi
+0000001200000005Work| 2-Apr-2024 08:00:00 +0200,2;000000000000-00000005\r\nhi|-0 => 0000001200000005Work|
+"#;
+
+fn fails(alloc: Global, row: &Row) -> Result<(), Fail> {
+    let (header, rest) = cut(row.text.as_slice());
+    let (records, call) = cut(rest);
+    let old = file_of(alloc, header, records)?;
+    let (header, records) = cut(row.expected.as_slice());
+    let new = file_of(alloc, header, records)?;
+    opening_fails::<MbxStore>(alloc, old.as_slice())?;
+    fails_once::<MbxStore>(alloc, old.as_slice(), call, new.as_slice())
+}
+
+#[test]
+fn a_failed_call_leaves_one_of_two_files(rt: HostRuntime) -> Result<(), Fail> {
+    for row in &rows(rt.alloc(), FAILING)? {
+        fails(rt.alloc(), row)?;
+    }
+    Ok(())
+}
+
+// ---- Changes one after the other
+
+const THREE: &str = r#"
+0000001200000005| => 0000001200000006Work|
+0000001200000005| 2-Apr-2024 08:00:00 +0200,2;000000000000-00000003\r\nhi => 0000001200000006Work| 2-Apr-2024 08:00:00 +0200,14;000000010001-00000006\r\nSubject: q\r\n\r\n
+"#;
+
+fn runs(alloc: Global, row: &Row) -> Result<(), Fail> {
+    let (header, records) = cut(row.text.as_slice());
+    let mut host = host_with(alloc, header, records)?;
+    let mut store = open_store::<MbxStore>(alloc, &mut host)?;
+    if run_three(alloc, &mut store, &mut host)? != Ok(3) {
+        return Err(Fail::new("a change is refused"));
+    }
+    let (header, records) = cut(row.expected.as_slice());
+    let expected = file_of(alloc, header, records)?;
+    if host.file(PATH) == Some(expected.as_slice()) {
+        return Ok(());
+    }
+    row.agrees(host.file(PATH).unwrap_or(&[]))
+}
+
+#[test]
+fn three_changes_are_done(rt: HostRuntime) -> Result<(), Fail> {
+    for row in &rows(rt.alloc(), THREE)? {
+        runs(rt.alloc(), row)?;
     }
     Ok(())
 }
