@@ -12,7 +12,7 @@ use Rattle.file_model.specs.Reserved.{is_reserved_name}
 use Rattle.file_model.proofs.Leaving.{ended_with, ended_weaker}
 use Rattle.file_model.proofs.Names.{all_may_stand, cases_path}
 use Rattle.file_model.proofs.NamesIn.{plain_is}
-use Rattle.file_model.proofs.Paths.{parent_child, last_part_child}
+use Rattle.file_model.proofs.Paths.{child_apart, parent_child, last_part_child}
 use Rattle.file_model.proofs.Runs.{ran_weaker, ran_none, now_all, now_weaker}
 use Rattle.mail_types.specs.declared.driver.Driver.TheVariants.{Mix}
 use Rattle.store_trait.specs.Commits.{mark_of}
@@ -71,11 +71,16 @@ name_apart root name m no_path is same = no_path (subst (λ z. is_path z ≡ tru
 inside_apart : (root name q inside : List ℕ) → HasNoSlash name → child (child root q) inside ≢ child root name
 inside_apart root name q inside plain same = slash_inside q inside (subst HasNoSlash (sym (one_below root (child q inside) name (sym (child_below root q inside) ∙ same))) plain)
 
-path_beside : (root m : List ℕ) → is_path m ≡ true → IsBeside (list_of root) (child root m)
+-- a name's path is beside them
+pub path_beside : (root m : List ℕ) → is_path m ≡ true → IsBeside (list_of root) (child root m)
 path_beside root m is = ((λ same. name_apart root (codes ".new.mailboxlist") m no_new_path is (same ∙ temporary_is root)), name_apart root (codes ".mailboxlist") m no_list_path is)
 
 inside_beside : (root q inside : List ℕ) → IsBeside (list_of root) (child (child root q) inside)
 inside_beside root q inside = ((λ same. inside_apart root (codes ".new.mailboxlist") q inside new_plain (same ∙ temporary_is root)), inside_apart root (codes ".mailboxlist") q inside list_plain)
+
+-- the root isn't the temporary file
+pub list_temporary : (root : List ℕ) → root ≢ temporary_of (list_of root)
+list_temporary root same = child_apart root (codes ".new.mailboxlist") (same ∙ temporary_is root)
 
 -- ---- The tree
 

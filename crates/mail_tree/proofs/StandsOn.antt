@@ -1,13 +1,16 @@
 -- An open mailbox stands on through a call of the tree on another name.
-use Rattle.std.proofs.Common.{◌≡◌, ◌≢◌, ⊎_elim, ℕ, List, [], ◌∷◌, Bool, true, false, cond, not, ◌&&◌, Option, Some, None, refl, sym, ◌∙◌, ap, subst}
-use Rattle.std.specs.Prelude.{is_some}
+use Rattle.std.proofs.Common.{◌≡◌, ◌≢◌, ◌⊎◌, inl, inr, ⊎_elim, ℕ, List, [], ◌∷◌, ◌++◌, drop, length, append_assoc, Bool, true, false, cond, not, ◌&&◌, ◌||◌, Option, Some, None, refl, sym, ◌∙◌, ap, subst}
+use Rattle.std.specs.Prelude.{is_some, is_none, bytes_eq}
 use Rattle.std.specs.FinMap.{get, keys, insert, remove, get-remove}
-use Rattle.std.proofs.lemmas.Bool.{false≢true, and_parts}
+use Rattle.std.proofs.lemmas.Bool.{false≢true, false_from_ne_true, and_parts}
+use Rattle.std.proofs.lemmas.List.{append-nil}
+use Rattle.std.proofs.lemmas.Slice.Eq.{bytes_eq-Decides}
 use Rattle.std.proofs.lemmas.Cmp.{nat_list_cmp_total}
 use Rattle.file_model.specs.Disk.{Disk, seen}
 use Rattle.file_model.specs.Images.{Image, nothing, file, node_at}
-use Rattle.file_model.specs.Paths.{child, is_inside}
-use Rattle.file_model.proofs.Inside.{child_inside}
+use Rattle.file_model.specs.Kept.{Sees, IsBeside, moved_node}
+use Rattle.file_model.specs.Paths.{child, is_inside, is_at_or_inside}
+use Rattle.file_model.proofs.Inside.{Under, Slash, child_inside, inside_is, is_under, not_both, under_is, under_test}
 use Rattle.file_model.proofs.Names.{other_path}
 use Rattle.mail_types.specs.declared.driver.Driver.{Driver}
 use Rattle.mail_types.specs.declared.driver.Driver.TheVariants.{Unix, Mmdf, Mbx, Mtx, Tenex, Mh, Mix}
@@ -20,19 +23,23 @@ use Rattle.store_trait.proofs.Grammars.{written_stays}
 use Rattle.store_trait.proofs.Touched.{IsBut, sees_but}
 use Rattle.any_store.specs.Choice.{Formats}
 use Rattle.any_store.proofs.Lengths.{none_passes}
-use Rattle.mail_tree.specs.declared.fault.TreeFault.TheVariants.{Absent, HasChildren}
-use Rattle.mail_tree.specs.Changes.{empty_directory, put_missing, with_parents, created_node, created_tree, tree_with_directory, delete_refusal, deleted_nodes, deleted_tree}
+use Rattle.mail_tree.specs.declared.fault.TreeFault.{TreeFault}
+use Rattle.mail_tree.specs.declared.fault.TreeFault.TheVariants.{Absent, HasChildren, Reserved, Selected, There}
+use Rattle.mail_tree.specs.Changes.{empty_directory, put_missing, with_parents, created_node, created_tree, tree_with_directory, delete_refusal, deleted_nodes, deleted_tree, same_name, due_create, due_create_dir, due_delete, due_rename, is_selected_below, moved_nodes, renamed_tree, with_subscribed}
 use Rattle.mail_tree.specs.Changing.{Placed, IsMailboxAt}
 use Rattle.mail_tree.specs.Mailboxes.{HasMailboxOf}
-use Rattle.mail_tree.specs.Names.{prefixes}
-use Rattle.mail_tree.specs.Promises.{IsDeletable, IsMadeAbove, IsMadeAt, IsMadeFor}
-use Rattle.mail_tree.specs.Trees.{Directory, TreeNode, unknown_file, file_mailbox, folder, Nodes, Tree, HasTree, IsNodeOf, has_inside, is_free, is_message, is_plain, is_plain_directory, sees, seen_node}
+use Rattle.mail_tree.specs.Names.{inbox, prefixes}
+use Rattle.mail_tree.specs.Promises.{IsDeletable, IsMadeAbove, IsMadeAt, IsMadeFor, IsMovedOrNot}
+use Rattle.mail_tree.specs.Trees.{Directory, TreeNode, unknown_file, file_mailbox, folder, Nodes, Tree, HasTree, IsNodeOf, has_inside, is_blocked, is_free, is_message, list_of, is_plain, is_plain_directory, sees, seen_node}
 use Rattle.mail_tree.proofs.Below.{one_below, child_below}
 use Rattle.mail_tree.proofs.ChangedFile.{path_apart}
 use Rattle.mail_tree.proofs.Emptied.{plain_refusal}
 use Rattle.mail_tree.proofs.Followed.{IsFileSeen, file_seen}
 use Rattle.mail_tree.proofs.FreeDirectory.{key_in}
 use Rattle.mail_tree.proofs.Made.{get_put_other}
+use Rattle.mail_tree.proofs.MovedKeys.{Apart, get_moved}
+use Rattle.mail_tree.proofs.NamesWritten.{path_beside}
+use Rattle.mail_tree.proofs.NewMailbox.{same_due}
 use Rattle.mail_tree.proofs.OneFile.{may_clear, no_home}
 use Rattle.mail_tree.proofs.Sighted.{all_same, sees_front}
 
@@ -118,6 +125,45 @@ deleted_kept nodes name o q apart = at o
     at (Some (file_mailbox driver meaning)) = gone
     at (Some (folder d)) = either (is_plain_directory d) _ (left _ _)
 
+-- the same where each node on the way is kept
+seen_kept : (tree later : Tree) (m : List ℕ) → sees tree.nodes m ≡ true → ((q rest : List ℕ) → m ≡ child q rest → is_some (get tree.nodes q) ≡ true → get later.nodes q ≡ get tree.nodes q)
+    → get later.nodes m ≡ get tree.nodes m → seen_node later.nodes m ≡ seen_node tree.nodes m
+seen_kept tree later m seen same here =
+    ap (λ b. cond b (get later.nodes m) None) (fronts ∙ seen) ∙ here ∙ sym (ap (λ b. cond b (get tree.nodes m) None) seen)
+  where
+    plain_some : (o : Option TreeNode) → is_plain o ≡ true → is_some o ≡ true
+    plain_some None plain = plain
+    plain_some (Some n) plain = refl
+
+    fronts : sees later.nodes m ≡ sees tree.nodes m
+    fronts = all_same (λ q. is_plain (get later.nodes q)) (λ q. is_plain (get tree.nodes q)) m
+        (λ q rest whole. ap is_plain (same q rest whole (plain_some (get tree.nodes q) (sees_front tree.nodes m q rest seen whole))))
+
+-- what is under a path, and above another, leads there
+front_under : (dir q rest m : List ℕ) → m ≡ child q rest → is_at_or_inside dir q ≡ true → is_at_or_inside dir m ≡ true
+front_under dir q rest m whole is =
+    let u = under_is dir q is in
+    under_test dir m (record { rest = u.rest ++ 47 ∷ rest; whole = whole ∙ ap (λ l. l ++ 47 ∷ rest) u.whole ∙ append_assoc dir u.rest (47 ∷ rest); slash = longer u.rest u.slash })
+  where
+    longer : (r : List ℕ) → Slash r → Slash (r ++ 47 ∷ rest)
+    longer r (inl none) = inr (rest, ap (λ l. l ++ 47 ∷ rest) none)
+    longer r (inr more) = inr (more.0 ++ 47 ∷ rest, ap (λ l. l ++ 47 ∷ rest) more.1)
+
+-- what isn't under a name isn't under its path
+path_beside_of : (root dir m : List ℕ) → is_at_or_inside dir m ≡ false → is_at_or_inside (child root dir) (child root m) ≡ false
+path_beside_of root dir m none = false_from_ne_true (is_at_or_inside (child root dir) (child root m)) (λ is.
+    let u = under_is (child root dir) (child root m) is in
+    not_both (is_at_or_inside dir m) (under_test dir m (record { rest = u.rest; whole = one_below root m (dir ++ u.rest) (u.whole ∙ append_assoc root (47 ∷ dir) u.rest); slash = u.slash })) none)
+
+-- what is under neither path stays there
+pub beside_moves : (from to : List ℕ) (image : Image) (q : List ℕ) → is_at_or_inside to q ≡ false → is_at_or_inside from q ≡ false → moved_node from to image q ≡ node_at image q
+beside_moves from to image q no_to no_from = λ i. cond (no_to i) (node_at image (from ++ drop (length to) q)) (cond (no_from i) nothing (node_at image q))
+
+-- a test that refuses nothing
+no_fault : (test : Bool) (fault : TreeFault) (rest : Option TreeFault) → cond test (Some fault) rest ≡ None → (test ≡ false) × (rest ≡ None)
+no_fault true fault rest none = absurd (cc)
+no_fault false fault rest none = (refl, none)
+
 -- ---- Through a call
 
 module _ (formats : Formats) (reads : (driver : Driver) → IsReading driver formats.forms) (root : List ℕ) (view : View) (law : IsView formats.forms view) (one : is_directory_driver view.driver ≡ false) (a b : Disk) (tree : Tree) (m : Placed)
@@ -128,13 +174,19 @@ module _ (formats : Formats) (reads : (driver : Driver) → IsReading driver for
   some_node : is_some (get tree.nodes m.name) ≡ true
   some_node = ap is_some shown.node.is
 
+  -- where its file is the same
+  through_node : node_at (seen b) (child root m.name) ≡ node_at (seen a) (child root m.name) → (later : Tree) → HasTree formats root (seen b) later → seen_node later.nodes m.name ≡ seen_node tree.nodes m.name
+      → IsMailboxAt formats root view (seen b) later m
+  through_node kept later has same =
+      kept_at formats reads root view law (seen a) (seen b) tree later m at
+      (λ q rests. let here : q ≡ child root m.name = rests_is view.driver view.path q one rests ∙ at.store.path in
+      subst (λ r. node_at (seen b) r ≡ node_at (seen a) r) (sym here) kept) has same
+
   -- a call that leaves its file alone
   through : (files free : List ℕ → Type 0) → IsBut files free (child root m.name) → SeesBut files free a b → (later : Tree) → HasTree formats root (seen b) later → seen_node later.nodes m.name ≡ seen_node tree.nodes m.name
       → IsMailboxAt formats root view (seen b) later m
   through files free apart sees later has same =
-      kept_at formats reads root view law (seen a) (seen b) tree later m at
-      (λ q rests. let here : q ≡ child root m.name = rests_is view.driver view.path q one rests ∙ at.store.path in
-      subst (λ r. node_at (seen b) r ≡ node_at (seen a) r) (sym here) ((sees_but files free a b sees).each (child root m.name) apart)) has same
+      through_node ((sees_but files free a b sees).each (child root m.name) apart) later has same
 
   -- what is above a name where nothing stood was nothing too, or stood
   stands_here : node_at (seen a) (child root m.name) ≡ nothing → ⊥
@@ -220,3 +272,124 @@ module _ (formats : Formats) (reads : (driver : Driver) → IsReading driver for
         )
         sees (deleted_tree tree name) has
         (seen_again tree (deleted_tree tree name) m.name name shown.seen other not_below (λ q apart some. deleted_kept tree.nodes name (get tree.nodes name) q apart) some_node)
+
+  -- where the subscribed names change
+  pub through_listed : (names : List (List ℕ)) → Sees (IsBeside (list_of root)) a b → HasTree formats root (seen b) (with_subscribed tree names) → IsMailboxAt formats root view (seen b) (with_subscribed tree names) m
+  through_listed names sees has = through_node (sees.each (child root m.name) (path_beside root m.name shown.is_path)) (with_subscribed tree names) has refl
+
+  -- where another name moves, and what is in it
+  module _ (from to : List ℕ) (beside : is_at_or_inside from m.name ≡ false) (free : get tree.nodes to ≡ None) (apart : Apart from to) where
+    -- it isn't under the new name
+    outside : is_at_or_inside to m.name ≡ false
+    outside = false_from_ne_true (is_at_or_inside to m.name) (λ is.
+        let u = under_is to m.name is in
+        ⊎_elim (λ none. other_name to free (u.whole ∙ ap (λ r. to ++ r) none ∙ append-nil to)) (λ more. not_above to free more.0 (u.whole ∙ ap (λ r. to ++ r) more.1)) u.slash)
+
+    moved_kept : (q : List ℕ) → is_at_or_inside to q ≡ false → is_at_or_inside from q ≡ false → is_some (get tree.nodes q) ≡ true → get (renamed_tree tree from to).nodes q ≡ get tree.nodes q
+    moved_kept q no_to no_from some =
+        get_moved from to apart (with_parents to tree.nodes) q
+        ∙ (λ i. cond (no_to i) (get (with_parents to tree.nodes) (from ++ drop (length to) q)) (cond (no_from i) None (get (with_parents to tree.nodes) q)))
+        ∙ missing_kept (prefixes to) tree.nodes q some
+
+    front_beside : (dir : List ℕ) → is_at_or_inside dir m.name ≡ false → (q rest : List ℕ) → m.name ≡ child q rest → is_at_or_inside dir q ≡ false
+    front_beside dir none q rest whole = false_from_ne_true (is_at_or_inside dir q) (λ is. not_both (is_at_or_inside dir m.name) (front_under dir q rest m.name whole is) none)
+
+    seen_moved : seen_node (renamed_tree tree from to).nodes m.name ≡ seen_node tree.nodes m.name
+    seen_moved =
+        seen_kept tree (renamed_tree tree from to) m.name shown.seen
+        (λ q rest whole some. moved_kept q (front_beside to outside q rest whole) (front_beside from beside q rest whole) some)
+        (moved_kept m.name outside beside some_node)
+
+    node_moved : IsMovedOrNot root from to a (seen a) (seen b) → node_at (seen b) (child root m.name) ≡ node_at (seen a) (child root m.name)
+    node_moved moved = ⊎_elim (λ same. same (child root m.name) (not_made to))
+        (λ goes. goes (child root m.name) (not_made to) ∙ beside_moves (child root from) (child root to) (seen a) (child root m.name)
+        (path_beside_of root to m.name outside) (path_beside_of root from m.name beside)) moved.each
+
+    pub through_rename : IsMovedOrNot root from to a (seen a) (seen b) → HasTree formats root (seen b) (renamed_tree tree from to) → IsMailboxAt formats root view (seen b) (renamed_tree tree from to) m
+    through_rename moved has = through_node (node_moved moved) (renamed_tree tree from to) has seen_moved
+
+-- ---- By the refusal that isn't due
+
+none_got : (o : Option TreeNode) → is_some o ≡ false → o ≡ None
+none_got None none = refl
+none_got (Some n) none = absurd (false≢true (sym none))
+
+or_false : (x y : Bool) → (x || y) ≡ false → (x ≡ false) × (y ≡ false)
+or_false true y e = absurd (false≢true (sym e))
+or_false false y e = (refl, e)
+
+pub free_dir : (tree : Tree) (name : List ℕ) → due_create_dir tree name ≡ None → get tree.nodes name ≡ None
+free_dir tree name due = none_got (get tree.nodes name) (or_false (is_blocked tree.nodes name) (is_some (get tree.nodes name)) (no_fault (is_blocked tree.nodes name || is_some (get tree.nodes name)) There None due).0).1
+
+pub free_file : (tree : Tree) (name : List ℕ) (driver : Driver) → is_directory_driver driver ≡ false → due_create tree name driver ≡ None → get tree.nodes name ≡ None
+free_file tree name driver one due = free_dir tree name (sym (same_due tree name driver one) ∙ due)
+
+-- the deleted name isn't the selected one, and nothing else refuses
+pub record IsDoomed (tree : Tree) (name : List ℕ) (selected : Option (List ℕ)) : Type 0 where
+  pub other : same_name selected name ≡ false
+  pub due : delete_refusal tree.nodes name (seen_node tree.nodes name) ≡ None
+
+pub is_doomed : (tree : Tree) (name : List ℕ) (selected : Option (List ℕ)) → due_delete tree name selected ≡ None → IsDoomed tree name selected
+is_doomed tree name selected due =
+    let rest = (no_fault (bytes_eq name inbox) Reserved (cond (same_name selected name) (Some Selected) (delete_refusal tree.nodes name (seen_node tree.nodes name))) due).1 in
+    let last = no_fault (same_name selected name) Selected (delete_refusal tree.nodes name (seen_node tree.nodes name)) rest in
+    record { other = last.0; due = last.1 }
+
+pub other_selected : (selected name : List ℕ) → same_name (Some selected) name ≡ false → selected ≢ name
+other_selected selected name other same = not_both (bytes_eq selected name) ((bytes_eq-Decides selected name).1 same) other
+
+-- the selected name isn't under the one that moves, and the new name is free and apart
+pub record IsMovable (tree : Tree) (from to : List ℕ) (selected : Option (List ℕ)) : Type 0 where
+  pub beside : is_selected_below selected from ≡ false
+  pub free : get tree.nodes to ≡ None
+  pub apart : Apart from to
+
+pub is_movable : (tree : Tree) (from to : List ℕ) (selected : Option (List ℕ)) → due_rename tree from to selected ≡ None → IsMovable tree from to selected
+is_movable tree from to selected due = record { beside = second.0; free = free; apart = (from_apart, to_apart) }
+  where
+    taken : Option TreeFault
+    taken = cond ((is_some (get tree.nodes to) || is_blocked tree.nodes to) || is_inside from to) (Some There) None
+
+    second : (is_selected_below selected from ≡ false) × (cond (is_none (seen_node tree.nodes from)) (Some Absent) taken ≡ None)
+    second = no_fault (is_selected_below selected from) Selected (cond (is_none (seen_node tree.nodes from)) (Some Absent) taken)
+        (no_fault (bytes_eq from inbox) Reserved (cond (is_selected_below selected from) (Some Selected) (cond (is_none (seen_node tree.nodes from)) (Some Absent) taken)) due).1
+
+    third : (is_none (seen_node tree.nodes from) ≡ false) × (taken ≡ None)
+    third = no_fault (is_none (seen_node tree.nodes from)) Absent taken second.1
+
+    tests : ((is_some (get tree.nodes to) || is_blocked tree.nodes to) ≡ false) × (is_inside from to ≡ false)
+    tests = or_false (is_some (get tree.nodes to) || is_blocked tree.nodes to) (is_inside from to) (no_fault ((is_some (get tree.nodes to) || is_blocked tree.nodes to) || is_inside from to) There None third.1).0
+
+    free : get tree.nodes to ≡ None
+    free = none_got (get tree.nodes to) (or_false (is_some (get tree.nodes to)) (is_blocked tree.nodes to) tests.0).0
+
+    seen_from : (sees tree.nodes from ≡ true) × (is_some (get tree.nodes from) ≡ true)
+    seen_from = at (sees tree.nodes from) (get tree.nodes from) third.0
+      where
+        at : (b : Bool) (o : Option TreeNode) → is_none (cond b o None) ≡ false → (b ≡ true) × (is_some o ≡ true)
+        at true (Some n) e = (refl, refl)
+        at true None e = absurd (false≢true (sym e))
+        at false o e = absurd (false≢true (sym e))
+
+    other : from ≢ to
+    other same = false≢true (sym (ap is_some free) ∙ ap (λ z. is_some (get tree.nodes z)) (sym same) ∙ seen_from.1)
+
+    from_apart : is_at_or_inside from to ≡ false
+    from_apart = false_from_ne_true (is_at_or_inside from to) (λ is.
+        let u = under_is from to is in
+        ⊎_elim (λ none. other (sym (u.whole ∙ ap (λ r. from ++ r) none ∙ append-nil from)))
+        (λ more. not_both (is_inside from to) (ap (is_inside from) (u.whole ∙ ap (λ r. from ++ r) more.1) ∙ child_inside from more.0) tests.1) u.slash)
+
+    to_apart : is_at_or_inside to from ≡ false
+    to_apart = false_from_ne_true (is_at_or_inside to from) (λ is.
+        let u = under_is to from is in
+        ⊎_elim (λ none. other (u.whole ∙ ap (λ r. to ++ r) none ∙ append-nil to))
+        (λ more. false≢true (sym (ap is_plain free) ∙ sees_front tree.nodes from to more.0 seen_from.0 (u.whole ∙ ap (λ r. to ++ r) more.1))) u.slash)
+
+-- a selected name that isn't below a name isn't under it
+pub not_under : (selected name : List ℕ) → is_selected_below (Some selected) name ≡ false → is_at_or_inside name selected ≡ false
+not_under selected name none = false_from_ne_true (is_at_or_inside name selected) (λ is.
+    let u = under_is name selected is in
+    let parts = or_false (bytes_eq selected name) (is_inside name selected) none in
+    ⊎_elim (λ same. not_both (bytes_eq selected name) ((bytes_eq-Decides selected name).1 (u.whole ∙ ap (λ r. name ++ r) same ∙ append-nil name)) parts.0)
+    (λ more. not_both (is_inside name selected) (ap (is_inside name) (u.whole ∙ ap (λ r. name ++ r) more.1) ∙ child_inside name more.0) parts.1) u.slash)

@@ -1,6 +1,6 @@
 -- What the calls on the tree say, each as a record of facts.
 -- `old` and `new` are the host's histories at a call's start and end.
-use Rattle.std.specs.Prelude.{ℕ, Bool, true, false, List, ◌≡◌, ◌⊎◌, ◌||◌, map, ◌∷◌, ◌++◌, Option, Some, Result, Ok, Err, OnOk, IsErrOf}
+use Rattle.std.specs.Prelude.{ℕ, Bool, true, false, List, ◌≡◌, ◌⊎◌, ◌||◌, map, ◌∷◌, ◌++◌, Option, Some, None, Result, Ok, Err, OnOk, IsErrOf}
 use Rattle.file_model.specs.Causes.{Faults, Rose, OnlyFiles}
 use Rattle.file_model.specs.Disk.{Disk, seen, MayLeave}
 use Rattle.file_model.specs.Histories.{History, Now, Ran, Ended}
@@ -42,6 +42,10 @@ AnswersBy formats root due result old = Now old (λ w. (tree : Tree) → HasTree
 -- the same of a refusal alone
 abbrev pub RefusesBy : Formats → List ℕ → (Tree → Option TreeFault) → TreeFault → History → Type 0
 RefusesBy formats root due fault old = Now old (λ w. (tree : Tree) → HasTree formats root (seen w.disk) tree → (due tree ≡ Some fault) ⊎ (breaks_tree fault ≡ true))
+
+-- where a refusal is due by that tree nothing is done, whatever the answer
+abbrev pub ActsUndue : Formats → List ℕ → (Tree → Option TreeFault) → (old new : History) → Type 0
+ActsUndue formats root due old new = Now old (λ w. (tree : Tree) → HasTree formats root (seen w.disk) tree → (due tree ≡ None) ⊎ (new ≡ old))
 
 -- a call fails only where a call on the files failed
 abbrev pub tree_failed : TreeFault → Bool

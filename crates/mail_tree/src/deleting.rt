@@ -9,7 +9,7 @@ ghost use Rattle.any_store.specs.Stores.{is_known};
 ghost use Rattle.mail_tree.specs.Changes.{due_delete, delete_refusal, deleted_tree, same_name};
 ghost use Rattle.mail_tree.specs.Deleting.{IsKnownDoomed, StandsDoomed, SeesDoomed, RefusesDoomed};
 ghost use Rattle.mail_tree.specs.Names.{IsName};
-ghost use Rattle.mail_tree.specs.Promises.{AnswersBy, ChangesTree, CommitsTree, LeavesBut, IsDeletable, TreeCause, RefusesBy, is_given};
+ghost use Rattle.mail_tree.specs.Promises.{ActsUndue, AnswersBy, ChangesTree, CommitsTree, LeavesBut, IsDeletable, TreeCause, RefusesBy, is_given};
 ghost use Rattle.mail_tree.specs.Trees.{Tree, seen_node};
 ghost use Rattle.mail_tree.specs.declared.deleting.Doomed.TheVariants.{Mailbox as MailboxDoomed};
 
@@ -109,6 +109,7 @@ fn find_doomed<F: Files, S: AnyMailbox<F>>(
 }
 
 // Removes the mailbox that a name sees.
+#[tactic(auto, using(crate::proofs::Joined::acts_not))]
 fn remove_mailbox<F: Files, S: AnyMailbox<F>>(
     alloc: Global,
     files: &mut F,
@@ -121,6 +122,7 @@ fn remove_mailbox<F: Files, S: AnyMailbox<F>>(
     requires found { Now (F.history files.old) (λ w. SeesDoomed root.now name.now (MailboxDoomed driver) (seen w.disk)) }
 
     ensures answer { AnswersBy (formats_of S.forms chosen) root.now (λ tree. delete_refusal tree.nodes name.now (seen_node tree.nodes name.now)) result (F.history files.old) }
+    ensures acts { ActsUndue (formats_of S.forms chosen) root.now (λ tree. delete_refusal tree.nodes name.now (seen_node tree.nodes name.now)) (F.history files.old) (F.history files.new) }
     ensures given { IfErr result (λ fault. IsTrue (is_given fault)) }
     ensures changes { ChangesTree (formats_of S.forms chosen) root.now (λ tree. deleted_tree tree name.now) result (F.history files.old) (F.history files.new) }
     ensures leaves { LeavesBut (IsDeletable (child root.now name.now)) (λ start q. q ≡ child root.now name.now) result (F.history files.old) (F.history files.new) }
@@ -135,6 +137,7 @@ fn remove_mailbox<F: Files, S: AnyMailbox<F>>(
 }
 
 /// Deletes a mailbox, also one that is ill-formed, or a directory in which nothing but leftover files stands.
+#[tactic(auto, using(crate::proofs::Joined::acts_not))]
 pub fn delete<F: Files, S: AnyMailbox<F>>(
     alloc: Global,
     files: &mut F,
@@ -145,6 +148,7 @@ pub fn delete<F: Files, S: AnyMailbox<F>>(
     requires some { 1 ≤ length root.now }
 
     ensures answer { AnswersBy (formats_of S.forms chosen) root.now (λ tree. due_delete tree name.now (option_map (λ (s : Bor (List ℕ)). s.now) selected.entry)) result (F.history files.old) }
+    ensures acts { ActsUndue (formats_of S.forms chosen) root.now (λ tree. due_delete tree name.now (option_map (λ (s : Bor (List ℕ)). s.now) selected.entry)) (F.history files.old) (F.history files.new) }
     ensures given { IfErr result (λ fault. IsTrue (is_given fault)) }
     ensures changes { ChangesTree (formats_of S.forms chosen) root.now (λ tree. deleted_tree tree name.now) result (F.history files.old) (F.history files.new) }
     ensures leaves { LeavesBut (IsDeletable (child root.now name.now)) (λ start q. q ≡ child root.now name.now) result (F.history files.old) (F.history files.new) }

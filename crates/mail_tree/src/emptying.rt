@@ -12,7 +12,7 @@ ghost use Rattle.store_trait.specs.Promises.{RanOnFiles};
 ghost use Rattle.any_store.specs.Choice.{formats_of, chosen, has_file};
 ghost use Rattle.mail_tree.specs.Changes.{delete_refusal, deleted_tree};
 ghost use Rattle.mail_tree.specs.Deleting.{SeesDoomed, is_left_file, holds_left_files, ArePathsIn, is_one_of, Cleared, RemovedDirectory};
-ghost use Rattle.mail_tree.specs.Promises.{AnswersBy, BreaksTree, ChangesTree, CommitsTree, LeavesBut, IsDeletable, TreeCause, is_given};
+ghost use Rattle.mail_tree.specs.Promises.{ActsUndue, AnswersBy, BreaksTree, ChangesTree, CommitsTree, LeavesBut, IsDeletable, TreeCause, is_given};
 ghost use Rattle.mail_tree.specs.Trees.{seen_node};
 ghost use Rattle.mail_tree.specs.declared.deleting.Doomed.TheVariants.{Directory as DirectoryDoomed};
 
@@ -204,6 +204,7 @@ fn remove_empty<F: Files>(files: &mut F, path: &str) -> Result<(), TreeFault>
 }
 
 /// Removes the plain directory that a name sees, if nothing but leftover files stands in it.
+#[tactic(auto, using(crate::proofs::Joined::acts_not))]
 pub fn remove_directory<F: Files, S: AnyMailbox<F>>(
     alloc: Global,
     files: &mut F,
@@ -214,6 +215,7 @@ pub fn remove_directory<F: Files, S: AnyMailbox<F>>(
     requires found { Now (F.history files.old) (λ w. SeesDoomed root.now name.now DirectoryDoomed (seen w.disk)) }
 
     ensures answer { AnswersBy (formats_of S.forms chosen) root.now (λ tree. delete_refusal tree.nodes name.now (seen_node tree.nodes name.now)) result (F.history files.old) }
+    ensures acts { ActsUndue (formats_of S.forms chosen) root.now (λ tree. delete_refusal tree.nodes name.now (seen_node tree.nodes name.now)) (F.history files.old) (F.history files.new) }
     ensures given { IfErr result (λ fault. IsTrue (is_given fault)) }
     ensures changes { ChangesTree (formats_of S.forms chosen) root.now (λ tree. deleted_tree tree name.now) result (F.history files.old) (F.history files.new) }
     ensures leaves { LeavesBut (IsDeletable (child root.now name.now)) (λ start q. q ≡ child root.now name.now) result (F.history files.old) (F.history files.new) }

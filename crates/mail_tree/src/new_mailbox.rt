@@ -8,7 +8,7 @@ ghost use Rattle.any_store.specs.Choice.{formats_of, chosen};
 ghost use Rattle.mail_tree.specs.Changes.{due_create, due_create_dir, created_tree};
 ghost use Rattle.mail_tree.specs.Making.{IsFreeName};
 ghost use Rattle.mail_tree.specs.Names.{IsName};
-ghost use Rattle.mail_tree.specs.Promises.{AnswersBy, ChangesTree, CommitsTree, LeavesBut, IsMadeFor, TreeCause, HasRoot, RefusesBy, is_given};
+ghost use Rattle.mail_tree.specs.Promises.{ActsUndue, AnswersBy, ChangesTree, CommitsTree, LeavesBut, IsMadeFor, TreeCause, HasRoot, RefusesBy, is_given};
 
 use crate::making::make_parents;
 use crate::path::path_of;
@@ -45,6 +45,7 @@ fn free_path<F: Files, S: AnyMailbox<F>>(
 }
 
 /// Makes an empty mailbox of a driver that stands, and the directories above it that are missing.
+#[tactic(auto, using(crate::proofs::Joined::acts_not))]
 pub fn create<F: Files, S: AnyMailbox<F>>(
     alloc: Global,
     files: &mut F,
@@ -59,6 +60,7 @@ pub fn create<F: Files, S: AnyMailbox<F>>(
     requires root { HasRoot root.now (F.history files.old) }
 
     ensures answer { AnswersBy (formats_of S.forms chosen) root.now (λ tree. due_create tree name.now driver) result (F.history files.old) }
+    ensures acts { ActsUndue (formats_of S.forms chosen) root.now (λ tree. due_create tree name.now driver) (F.history files.old) (F.history files.new) }
     ensures given { IfErr result (λ fault. IsTrue (is_given fault)) }
     ensures created { IfOk result (λ store. Creates S.forms driver (child root.now name.now) (S.view store) fresh (F.history files.new)) }
     ensures made { IfOk result (λ store. IsOpenAt driver (child root.now name.now) (S.view store)) }

@@ -12,7 +12,7 @@ ghost use Rattle.store_trait.specs.Promises.{RanOnFiles};
 ghost use Rattle.any_store.specs.Choice.{formats_of, chosen};
 ghost use Rattle.mail_tree.specs.Changes.{is_selected_below, due_rename, renamed_tree};
 ghost use Rattle.mail_tree.specs.Names.{IsName};
-ghost use Rattle.mail_tree.specs.Promises.{AnswersBy, ChangesTree, CommitsTree, LeavesMoved, BreaksTree, TreeCause, HasRoot, is_given};
+ghost use Rattle.mail_tree.specs.Promises.{ActsUndue, AnswersBy, ChangesTree, CommitsTree, LeavesMoved, BreaksTree, TreeCause, HasRoot, is_given};
 ghost use Rattle.mail_tree.specs.Renaming.{sees_something, is_taken, CanRename, CanMoveWhole, KeepsAll, SeesAll};
 
 use crate::making::make_parents;
@@ -180,6 +180,7 @@ fn move_one<F: Files>(files: &mut F, from: &str, to: &str) -> Result<(), TreeFau
 }
 
 /// Gives what stands at a name, and all in it, another name. The directories above that are made where they are missing.
+#[tactic(auto, using(crate::proofs::Joined::acts_not))]
 pub fn rename<F: Files, S: AnyMailbox<F>>(
     alloc: Global,
     files: &mut F,
@@ -192,6 +193,7 @@ pub fn rename<F: Files, S: AnyMailbox<F>>(
     requires root { HasRoot root.now (F.history files.old) }
 
     ensures answer { AnswersBy (formats_of S.forms chosen) root.now (λ tree. due_rename tree from.now to.now (option_map (λ (s : Bor (List ℕ)). s.now) selected.entry)) result (F.history files.old) }
+    ensures acts { ActsUndue (formats_of S.forms chosen) root.now (λ tree. due_rename tree from.now to.now (option_map (λ (s : Bor (List ℕ)). s.now) selected.entry)) (F.history files.old) (F.history files.new) }
     ensures given { IfErr result (λ fault. IsTrue (is_given fault)) }
     ensures changes { ChangesTree (formats_of S.forms chosen) root.now (λ tree. renamed_tree tree from.now to.now) result (F.history files.old) (F.history files.new) }
     ensures leaves { LeavesMoved root.now from.now to.now result (F.history files.old) (F.history files.new) }

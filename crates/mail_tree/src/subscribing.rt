@@ -5,7 +5,7 @@ ghost use Rattle.file_model.specs.Kept.{NonePending};
 ghost use Rattle.store_trait.specs.Promises.{RanOnFiles};
 ghost use Rattle.any_store.specs.Choice.{formats_of, chosen};
 ghost use Rattle.mail_tree.specs.Changes.{breaks_tree, due_unsubscribe, subscribed_tree, unsubscribed_tree};
-ghost use Rattle.mail_tree.specs.Promises.{AnswersBy, ChangesTree, CommitsTree, LeavesList, WritesList, BreaksTree, TreeCause, HasRoot, is_given};
+ghost use Rattle.mail_tree.specs.Promises.{ActsUndue, AnswersBy, ChangesTree, CommitsTree, LeavesList, WritesList, BreaksTree, TreeCause, HasRoot, is_given};
 ghost use Rattle.mail_tree.specs.Subscriptions.{subscription_text};
 
 use crate::subscriptions::{list_path, list_text, subscribed};
@@ -67,6 +67,7 @@ pub fn subscribe<F: Files, S: AnyMailbox<F>>(
 }
 
 /// Takes a name from the subscribed ones. Where it isn't one of them nothing is written.
+#[tactic(auto, using(crate::proofs::Joined::acts_not))]
 pub fn unsubscribe<F: Files, S: AnyMailbox<F>>(
     alloc: Global,
     files: &mut F,
@@ -77,6 +78,7 @@ pub fn unsubscribe<F: Files, S: AnyMailbox<F>>(
     requires root { HasRoot root.now (F.history files.old) }
 
     ensures answer { AnswersBy (formats_of S.forms chosen) root.now (λ tree. due_unsubscribe tree name.now) result (F.history files.old) }
+    ensures acts { ActsUndue (formats_of S.forms chosen) root.now (λ tree. due_unsubscribe tree name.now) (F.history files.old) (F.history files.new) }
     ensures given { IfErr result (λ fault. IsTrue (is_given fault)) }
     ensures changes { ChangesTree (formats_of S.forms chosen) root.now (λ tree. unsubscribed_tree tree name.now) result (F.history files.old) (F.history files.new) }
     ensures leaves { LeavesList root.now result (F.history files.old) (F.history files.new) }

@@ -8,11 +8,13 @@ use Rattle.store_trait.specs.Meaning.{IsRemoved}
 use Rattle.store_trait.specs.OwnPaths.{MayRemove, IsHomeOf}
 use Rattle.store_trait.specs.Promises.{LeavesAlone}
 use Rattle.any_store.specs.Choice.{formats_of, chosen, driver_at}
-use Rattle.mail_tree.specs.Changes.{breaks_tree, deleted_tree}
+use Rattle.mail_tree.specs.Changes.{breaks_tree, delete_refusal, deleted_tree}
 use Rattle.mail_tree.specs.Promises.{ChangesTree, CommitsTree, IsDeletable, LeavesBut}
 use Rattle.mail_tree.specs.Sights.{broken_fault}
 use Rattle.mail_tree.proofs.Above.{below_no_top}
 use Rattle.mail_tree.proofs.Deleted.{file_mailboxes, mailbox_due, deleted_done, leaves_own, leaves_deleted, ok_failed}
+use Rattle.mail_tree.proofs.Joined.{acts_undue}
+use Rattle.mail_tree.specs.Trees.{seen_node}
 use Rattle.mail_tree.proofs.MailboxGone.{file_commits}
 use Rattle.mail_tree.proofs.NewMailbox.{broken_breaks, broken_failed}
 use Rattle.mail_tree.proofs.Nodes.{AreFormats}
@@ -164,3 +166,19 @@ returns-clause-commits g c =
     leaves_own forms root name driver one (Err c.in-Err.fault) (Err (broken_fault c.in-Err.fault)) (broken_failed c.in-Err.fault) old new alone in
     subst (λ f. CommitsTree {T = Unit {0}} fs root (λ tree. deleted_tree tree name) (Err f) old new) (sym c.broken.ensures)
     (file_commits fs laws root name is driver one (Err (broken_fault c.in-Err.fault)) old new known (g.met.F.Files.sound c.remove.new.files) leaves (λ none. tt))
+
+pub returns-in-Ok-clause-acts : goal.returns-in-Ok-clause-acts
+returns-in-Ok-clause-acts g c =
+    let forms = g.S.Store.forms in
+    let old = g.F.Files.history c.args.files.now in
+    let one = g.met.S.AnyMailbox.of_files c.args.driver ((g.met.S.AnyMailbox.knows_standing c.args.driver).1 c.requires.known) in
+    acts_undue (formats_of forms chosen) c.args.root.now (λ tree. delete_refusal tree.nodes c.args.name.now (seen_node tree.nodes c.args.name.now)) old (g.F.Files.history c.remove.new.files)
+    (mailbox_due forms c.args.root.now c.args.name.now c.args.driver one (λ d. g.met.S.AnyMailbox.all_read d) c.in_ok-path.ensures.name c.requires.known old (g.met.F.Files.sound c.args.files.now) c.requires.found)
+
+pub returns-clause-acts : goal.returns-clause-acts
+returns-clause-acts g c =
+    let forms = g.S.Store.forms in
+    let old = g.F.Files.history c.args.files.now in
+    let one = g.met.S.AnyMailbox.of_files c.args.driver ((g.met.S.AnyMailbox.knows_standing c.args.driver).1 c.requires.known) in
+    acts_undue (formats_of forms chosen) c.args.root.now (λ tree. delete_refusal tree.nodes c.args.name.now (seen_node tree.nodes c.args.name.now)) old (g.F.Files.history c.remove.new.files)
+    (mailbox_due forms c.args.root.now c.args.name.now c.args.driver one (λ d. g.met.S.AnyMailbox.all_read d) c.in_ok-path.ensures.name c.requires.known old (g.met.F.Files.sound c.args.files.now) c.requires.found)

@@ -12,7 +12,7 @@ use Rattle.mail_tree.specs.Deleting.{holds_left_files, ArePathsIn, is_one_of, Cl
 use Rattle.mail_tree.specs.Trees.{seen_node}
 use Rattle.mail_tree.proofs.Above.{below_no_top}
 use Rattle.mail_tree.proofs.Emptied.{left_directories, children_due, nothing_due, emptied_mid, emptied, emptied_done, leaves_emptied, commits_emptied, failed_breaks, failed_changes}
-use Rattle.mail_tree.proofs.Joined.{files_then, none_is_due, no_refusal, ok_map}
+use Rattle.mail_tree.proofs.Joined.{acts_undue, files_then, none_is_due, no_refusal, ok_map}
 use Rattle.mail_tree.proofs.Nodes.{AreFormats}
 use Rattle.mail_tree.proofs.emptying.remove_directory.Goals as goal
 
@@ -227,3 +227,35 @@ returns-clause-commits g c =
     let settled = subst (λ p. Ran (Keeps (λ q. q ≢ p)) mid new) here c.remove_empty.ensures.kept in
     let did = ok_map c.remove_empty.result (λ removed. emptied forms laws root name is paths old mid new known cleared (subst (λ p. Ended (λ a b. RemovedDirectory p (seen a) (seen b)) mid new) here removed)) c.remove_empty.ensures.removed in
     commits_emptied forms laws root name is paths c.remove_empty.result old mid new known c.remove_empty.ensures.failed directories kept settled did (g.met.F.Files.sound c.remove_empty.new.files) (λ none. c.remove_empty.ensures.none_pending)
+
+pub returns-in_err-remove_files-clause-acts : goal.returns-in_err-remove_files-clause-acts
+returns-in_err-remove_files-clause-acts g c =
+    let forms = g.S.Store.forms in
+    let fs = formats_of forms chosen in
+    let laws : AreFormats fs = record { choice = g.met.S.AnyMailbox.is_choice; reads = λ d. g.met.S.AnyMailbox.all_read d } in
+    let root = c.args.root.now in
+    let name = c.args.name.now in
+    let old = g.F.Files.history c.args.files.now in
+    let at = c.as_str.ensures.value ∙ c.in_ok-path.ensures.path in
+    let paths = map string_bytes c.in-Some.paths.items in
+    let known = left_directories root name paths old (g.met.F.Files.sound c.args.files.now) c.requires.found
+    (subst (λ f. Now old (λ w. is_some f ≡ holds_left_files (seen w.disk) (child root name))) c.in-Some.is (subst (λ p. Now old (λ w. is_some c.in_ok-paths.field-0 ≡ holds_left_files (seen w.disk) p)) at c.in_ok-paths.ensures.free))
+    (subst (λ p. Now old (λ w. ArePathsIn p paths (seen w.disk))) at
+    (subst (λ f. IfSome f (λ found. Now old (λ w. ArePathsIn c.as_str.result.now (map string_bytes found.items) (seen w.disk)))) c.in-Some.is c.in_ok-paths.ensures.paths)) in
+    acts_undue fs root (λ tree. delete_refusal tree.nodes name (seen_node tree.nodes name)) old (g.F.Files.history c.remove_files.new.files) (nothing_due forms laws root name c.in_ok-path.ensures.name paths old known)
+
+pub returns-clause-acts : goal.returns-clause-acts
+returns-clause-acts g c =
+    let forms = g.S.Store.forms in
+    let fs = formats_of forms chosen in
+    let laws : AreFormats fs = record { choice = g.met.S.AnyMailbox.is_choice; reads = λ d. g.met.S.AnyMailbox.all_read d } in
+    let root = c.args.root.now in
+    let name = c.args.name.now in
+    let old = g.F.Files.history c.args.files.now in
+    let at = c.as_str.ensures.value ∙ c.in_ok-path.ensures.path in
+    let paths = map string_bytes c.in-Some.paths.items in
+    let known = left_directories root name paths old (g.met.F.Files.sound c.args.files.now) c.requires.found
+    (subst (λ f. Now old (λ w. is_some f ≡ holds_left_files (seen w.disk) (child root name))) c.in-Some.is (subst (λ p. Now old (λ w. is_some c.in_ok-paths.field-0 ≡ holds_left_files (seen w.disk) p)) at c.in_ok-paths.ensures.free))
+    (subst (λ p. Now old (λ w. ArePathsIn p paths (seen w.disk))) at
+    (subst (λ f. IfSome f (λ found. Now old (λ w. ArePathsIn c.as_str.result.now (map string_bytes found.items) (seen w.disk)))) c.in-Some.is c.in_ok-paths.ensures.paths)) in
+    acts_undue fs root (λ tree. delete_refusal tree.nodes name (seen_node tree.nodes name)) old (g.F.Files.history c.remove_empty.new.files) (nothing_due forms laws root name c.in_ok-path.ensures.name paths old known)

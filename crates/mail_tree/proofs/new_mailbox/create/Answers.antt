@@ -9,13 +9,13 @@ use Rattle.store_trait.specs.OwnPaths.{MayClear, IsHomeOf}
 use Rattle.store_trait.specs.Meaning.{IsFreeFor}
 use Rattle.store_trait.specs.Promises.{Creates, LeavesAlone, RanOnFiles}
 use Rattle.any_store.specs.Choice.{formats_of, chosen}
-use Rattle.mail_tree.specs.Changes.{breaks_tree, created_tree}
+use Rattle.mail_tree.specs.Changes.{breaks_tree, due_create, created_tree}
 use Rattle.mail_tree.specs.Making.{MakesAbove, SeesAbove, MakesParents, IsReady}
 use Rattle.mail_tree.specs.Promises.{ChangesTree, CommitsTree, IsMadeFor, LeavesBut}
 use Rattle.mail_tree.specs.Sights.{broken_fault}
 use Rattle.mail_tree.proofs.Above.{below_no_top}
 use Rattle.mail_tree.proofs.Below.{one_below}
-use Rattle.mail_tree.proofs.Joined.{files_then}
+use Rattle.mail_tree.proofs.Joined.{acts_undue, files_then}
 use Rattle.mail_tree.proofs.NewMailbox.{free_ready, free_for, leaves_new, leaves_new_above, done_new, new_commits, new_due, broken_breaks, broken_failed}
 use Rattle.mail_tree.proofs.Nodes.{AreFormats}
 use Rattle.mail_tree.proofs.new_mailbox.create.Goals as goal
@@ -193,3 +193,33 @@ returns-clause-commits g c =
     leaves_new root name driver (Err c.in-Err.fault) (Err (broken_fault c.in-Err.fault)) (broken_failed c.in-Err.fault) old mid new (subst (λ h. Ran (MakesAbove root name) h mid) same (c.in_ok-make_parents.ensures.kept name (c.as_str.ensures.value ∙ c.in_ok-path.ensures.path))) (subst (λ h. Ended (SeesAbove root name) h mid) same (c.in_ok-make_parents.ensures.seen name (c.as_str.ensures.value ∙ c.in_ok-path.ensures.path))) (subst (λ h. Now h (λ w. NonePending w.disk) → Now mid (λ w. NonePending w.disk)) same c.in_ok-make_parents.ensures.none_pending) alone in
     subst (λ f. CommitsTree {T = g.row.S.Denot} fs root (λ tree. created_tree tree name driver c.args.fresh) (Err f) old new) (sym c.broken.ensures)
     (new_commits fs laws root name c.in_ok-path.ensures.name driver one c.args.fresh (Err (broken_fault c.in-Err.fault)) old new c.in_ok-path.ensures.free (g.met.F.Files.sound c.create.new.files) leaves (λ none. tt))
+
+pub returns-in_err-make_parents-clause-acts : goal.returns-in_err-make_parents-clause-acts
+returns-in_err-make_parents-clause-acts g c =
+    let fs = formats_of g.S.Store.forms chosen in
+    let root = c.args.root.now in
+    let name = c.args.name.now in
+    let driver = c.args.driver in
+    let old = g.F.Files.history c.args.files.now in
+    acts_undue fs root (λ tree. due_create tree name driver) old (g.F.Files.history c.make_parents.new.files)
+    (new_due fs root name c.in_ok-path.ensures.name driver (g.met.S.AnyMailbox.of_files driver c.requires.known) old c.in_ok-path.ensures.free)
+
+pub returns-in-Ok-clause-acts : goal.returns-in-Ok-clause-acts
+returns-in-Ok-clause-acts g c =
+    let fs = formats_of g.S.Store.forms chosen in
+    let root = c.args.root.now in
+    let name = c.args.name.now in
+    let driver = c.args.driver in
+    let old = g.F.Files.history c.args.files.now in
+    acts_undue fs root (λ tree. due_create tree name driver) old (g.F.Files.history c.create.new.files)
+    (new_due fs root name c.in_ok-path.ensures.name driver (g.met.S.AnyMailbox.of_files driver c.requires.known) old c.in_ok-path.ensures.free)
+
+pub returns-clause-acts : goal.returns-clause-acts
+returns-clause-acts g c =
+    let fs = formats_of g.S.Store.forms chosen in
+    let root = c.args.root.now in
+    let name = c.args.name.now in
+    let driver = c.args.driver in
+    let old = g.F.Files.history c.args.files.now in
+    acts_undue fs root (λ tree. due_create tree name driver) old (g.F.Files.history c.create.new.files)
+    (new_due fs root name c.in_ok-path.ensures.name driver (g.met.S.AnyMailbox.of_files driver c.requires.known) old c.in_ok-path.ensures.free)

@@ -12,7 +12,7 @@ use Rattle.mail_tree.specs.Renaming.{CanRename, CanMoveWhole}
 use Rattle.mail_tree.specs.Trees.{Tree, HasTree}
 use Rattle.mail_tree.proofs.Above.{below_no_top}
 use Rattle.mail_tree.proofs.Below.{one_below}
-use Rattle.mail_tree.proofs.Joined.{ended_two, known_gives, files_then, none_is_due, ok_map, no_refusal}
+use Rattle.mail_tree.proofs.Joined.{acts_undue, ended_two, known_gives, files_then, none_is_due, ok_map, no_refusal}
 use Rattle.mail_tree.proofs.MovedImages.{ran_may, all_moved, leaves_moved, may_above, leaves_above}
 use Rattle.mail_tree.proofs.MovedMix.{commits_renamed}
 use Rattle.mail_tree.proofs.Nodes.{AreFormats}
@@ -136,3 +136,11 @@ returns-clause-commits g c =
     (subst (λ h. Ended (SeesAbove root to) h mid) same (c.in_ok-make_parents.ensures.seen to at))
     (subst (λ q. OnOk c.move_one.result (Ended (SeesMoved q (child root to)) mid new)) here (subst (λ q. OnOk c.move_one.result (Ended (SeesMoved c.as_str-2.result.now q) mid new)) there c.move_one.ensures.moved)))
     c.move_one.ensures.none_pending
+
+pub returns-in_err-make_parents-clause-acts : goal.returns-in_err-make_parents-clause-acts
+returns-in_err-make_parents-clause-acts g c =
+    acts_undue (formats_of g.S.Store.forms chosen) c.args.root.now (λ tree. due_rename tree c.args.from.now c.args.to.now _) (g.F.Files.history c.args.files.now) (g.F.Files.history c.make_parents.new.files) c.in_ok-check_rename.ensures.answer
+
+pub returns-clause-acts : goal.returns-clause-acts
+returns-clause-acts g c =
+    acts_undue (formats_of g.S.Store.forms chosen) c.args.root.now (λ tree. due_rename tree c.args.from.now c.args.to.now _) (g.F.Files.history c.args.files.now) (g.F.Files.history c.move_one.new.files) c.in_ok-check_rename.ensures.answer

@@ -1,4 +1,4 @@
-use Rattle.std.proofs.Common.{inl, sym, ◌∙◌, ap, subst, true, false, OnOk, Err}
+use Rattle.std.proofs.Common.{inl, sym, ◌∙◌, ap, subst, true, false, OnOk, Ok, Err}
 use Rattle.std.specs.Prelude.{bytes_eq}
 use Rattle.file_model.specs.Histories.{Now, Ended}
 use Rattle.file_model.specs.Kept.{NonePending}
@@ -6,9 +6,10 @@ use Rattle.indexmap.specs.IndexSet.{remove_key}
 use Rattle.store_trait.specs.Promises.{RanOnFiles}
 use Rattle.any_store.specs.Choice.{formats_of, chosen}
 use Rattle.mail_tree.specs.declared.fault.TreeFault.TheVariants.{Absent}
+use Rattle.mail_tree.specs.Changes.{due_unsubscribe}
 use Rattle.mail_tree.specs.Promises.{WritesList, LeavesList}
 use Rattle.mail_tree.specs.Subscriptions.{subscription_text, without_name}
-use Rattle.mail_tree.proofs.Joined.{none_is_due}
+use Rattle.mail_tree.proofs.Joined.{acts_undue, none_is_due}
 use Rattle.mail_tree.proofs.NamesWritten.{list_changes, list_commits, known_due}
 use Rattle.mail_tree.proofs.Nodes.{AreFormats}
 use Rattle.mail_tree.proofs.Subscribed.{without_back, taken_out}
@@ -57,3 +58,13 @@ returns-clause-commits g c =
     list_commits root fs laws (without_name c.args.name.now) c.write_names.result (g.F.Files.history c.args.files.now) new (g.met.F.Files.sound c.write_names.new.files)
     (subst (λ h. LeavesList root c.write_names.result h new) same c.write_names.ensures.leaves)
     (subst (λ h. Now h (λ w. NonePending w.disk) → OnOk c.write_names.result (Now new (λ w. NonePending w.disk))) same c.write_names.ensures.none_pending)
+
+pub returns-clause-acts : goal.returns-clause-acts
+returns-clause-acts g c =
+    let fs = formats_of g.S.Store.forms chosen in
+    let laws : AreFormats fs = record { choice = g.met.S.AnyMailbox.is_choice; reads = λ d. g.met.S.AnyMailbox.all_read d } in
+    let name = c.args.name.now in
+    let old = g.F.Files.history c.args.files.now in
+    acts_undue fs c.args.root.now (λ tree. due_unsubscribe tree name) old (g.F.Files.history c.write_names.new.files)
+    (known_due fs laws c.args.root.now (without_name name) c.in_ok-names.names.keys c.in_ok-names.names.keys old old c.in_ok-names.ensures.value name true (Ok tt)
+    (sym c.if-not-shift_remove.false ∙ c.shift_remove.ensures.found) (λ due is. is))
