@@ -1,0 +1,31 @@
+-- What a change of the selected mailbox leaves.
+use Rattle.std.specs.Prelude.{ℕ, true, List, ◌≡◌, ◌≤◌, length, Result, OnOk}
+use Rattle.file_model.specs.Disk.{Disk, seen}
+use Rattle.file_model.specs.Histories.{World, History, Passed}
+use Rattle.file_model.specs.Images.{Image, is_directory}
+use Rattle.file_model.specs.Arrived.{Arrived}
+use Rattle.store_trait.specs.declared.change.Change.{Change}
+use Rattle.store_trait.specs.Views.{View}
+use Rattle.any_store.specs.Choice.{Formats}
+use Rattle.mail_tree.specs.Changing.{IsMailboxAt, tree_after, placed_after}
+use Rattle.session_loop.specs.declared.answers.Stop.{Stop}
+use Rattle.imap_session.specs.State.{Selected, State, changed_state}
+use Rattle.imap_session.specs.Doing.{Alike, Committing}
+
+-- reads see the root and the tree, and an open store is the mailbox
+pub record IsHere (formats : Formats) (state : State) (s : Selected) (is : View) (image : Image) : Type 0 where
+  pub some : 1 ≤ length state.root
+  pub stands : is_directory image state.root ≡ true
+  pub mailbox : IsMailboxAt formats state.root is image state.tree s.placed
+
+-- reads see the root and the tree after a change, and the store is the changed mailbox
+pub record HasChanged (formats : Formats) (state : State) (s : Selected) (recent : List ℕ) (change : Change) (is : View) (start world : World) : Type 0 where
+  pub streams : world.streams ≡ start.streams
+  pub stands : is_directory (seen world.disk) state.root ≡ true
+  pub mailbox : IsMailboxAt formats state.root is (seen world.disk) (tree_after formats state.tree s.placed change) (placed_after s.placed change)
+  pub still_alike : Alike formats state start.disk → Alike formats (changed_state formats state s recent change) world.disk
+
+-- a change of a mailbox of the tree, whose state had other recent messages afterwards
+pub record Commits (formats : Formats) (state : State) (s : Selected) (recent : List ℕ) (change : Change) (is : View) (result : Result (Unit {0}) Stop) (old new : History) : Type 0 where
+  pub instants : Passed (Committing formats state (changed_state formats state s recent change)) old new
+  pub done : OnOk result (Arrived (HasChanged formats state s recent change is) old new)

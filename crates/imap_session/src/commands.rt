@@ -1,0 +1,20 @@
+// The commands, one in a file.
+pub mod capability;
+pub mod check;
+pub mod close;
+pub mod create;
+pub mod delete;
+pub mod expunge;
+pub mod fetch;
+mod fetch_line;
+pub mod list;
+pub mod logout;
+pub mod lsub;
+pub mod password;
+pub mod rename;
+pub mod select;
+pub mod status;
+pub mod store;
+mod store_change;
+pub mod subscribe;
+pub mod unsubscribe;
