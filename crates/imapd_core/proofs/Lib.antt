@@ -1,5 +1,6 @@
-pub mod CountedText
-mod Examples
+pub mod InboxMade
+pub mod FirstTree
+pub mod Mixes
 pub mod Opened
-pub mod Served
 pub mod Settled
+pub mod Served

@@ -1,95 +1,172 @@
 -- The top call's clauses, from the loop's.
-use Rattle.std.proofs.Common.{◌≡◌, ◌^◌, ◌⊎◌, inl, inr, ℕ, Bool, true, false, List, [], ◌∷◌, length, take, refl, sym, ◌∙◌, ap, subst}
-use Rattle.std.specs.List.{Contains}
-use Rattle.command_lines.specs.Stream.{units_of, unfinished}
-use Rattle.file_model.specs.Images.{Image}
-use Rattle.file_model.specs.Disk.{Disk, MayLeave}
-use Rattle.file_model.specs.Kept.{IsLeftOrMade, NonePending}
-use Rattle.file_model.specs.Histories.{World, History, Now, Passed, instant}
-use Rattle.file_model.specs.Arrived.{Arrived, worlds_since, heard_since}
+use Rattle.std.proofs.Common.{◌≡◌, ◌≤◌, ◌^◌, ◌++◌, ◌⊎◌, inl, inr, ℕ, Bool, true, false, List, [], ◌∷◌, length, take, refl, sym, ◌∙◌, ap, subst}
+use Rattle.std.proofs.lemmas.Bool.{false≢true}
+use Rattle.std.proofs.lemmas.List.{append-nil}
 use Rattle.std.specs.FinMap.{empty}
-use Rattle.file_model.proofs.Kept.{may_make_none}
-use Rattle.file_model.proofs.Passes.{passed_weaker}
+use Rattle.std.specs.List.{Contains}
+use Rattle.file_model.specs.Arrived.{Arrived, worlds_since, heard_since}
+use Rattle.file_model.specs.Disk.{MayLeave, seen}
+use Rattle.file_model.specs.Histories.{World, History, Now, Passed, instant}
+use Rattle.file_model.specs.Images.{Image, is_directory}
+use Rattle.file_model.specs.Kept.{IsAtRest, IsSound, NonePending}
+use Rattle.file_model.proofs.Passes.{passed_none, passed_weaker}
+use Rattle.file_model.proofs.Runs.{now_all}
+use Rattle.any_store.specs.Laws.{any_reads, any_is_choice}
+use Rattle.any_store.specs.Stores.{view_of}
+use Rattle.any_store.specs.declared.any.AnyStore.{AnyStore}
+use Rattle.mail_tree.specs.Agreement.{IsTreeAlike}
+use Rattle.mail_tree.specs.Trees.{Tree}
+use Rattle.mail_tree.proofs.Nodes.{AreFormats}
 use Rattle.session_loop.specs.declared.end.End.{End}
 use Rattle.session_loop.specs.declared.end.End.TheVariants.{Done, Cut, Long, HearFault, SayFault, FileFault, Memory}
-use Rattle.session_loop.specs.Machine.{state_after, has_last}
-use Rattle.session_loop.specs.Outcome.{IsFault, IsLong, regular_end}
+use Rattle.session_loop.specs.Headline.{SaysReplies, IsBounded, IsServed, Survives}
 use Rattle.session_loop.specs.Instants.{Answering, Serving, Opened}
-use Rattle.session_loop.specs.Headline.{SaysReplies, IsBounded, IsServed, Survives, commands}
-use Rattle.session_loop.proofs.Instants.{opening_instant}
+use Rattle.session_loop.specs.Outcome.{IsFault, IsLong, regular_end}
+use Rattle.session_loop.specs.Machine.{is_over}
 use Rattle.session_loop.proofs.Headline.{said_since_each, bounded_since, crash_since}
-use Rattle.command_lines.proofs.Streams.{units_first}
+use Rattle.session_loop.proofs.Instants.{opening_instant}
+use Rattle.imap_grammar.specs.declared.unit.Unit as client
+use Rattle.imap_grammar.specs.Units.{units_of}
+use Rattle.imap_grammar.proofs.Feeds.{units_first}
+use Rattle.raw_commands.proofs.Pieces.{units_first as raw_first}
+use Rattle.imap_session.specs.declared.session.Session.{Session}
+use Rattle.imap_session.specs.Laws.{kept, says_something}
+use Rattle.imap_session.specs.Protocol.{protocol}
+use Rattle.imap_session.specs.Standing.{StandsFor}
+use Rattle.imap_session.specs.State.{State}
 use Rattle.imapd_core.specs.declared.server.Status.TheVariants.{Long as Status-Long}
-use Rattle.imapd_core.specs.Replies.{State, StandsFor, IsAlike, Agrees, greeting, step, ends, protocol}
-use Rattle.imapd_core.specs.Laws.{is_kept, says_something, greeting_is_said}
-use Rattle.imapd_core.specs.Server.{inbox_of, first_state}
-use Rattle.imapd_core.specs.Statuses.{status_of_end, WasServed, IsServedAs, regular_status}
+use Rattle.imapd_core.specs.Opening.{NoUnits}
+use Rattle.imapd_core.specs.Promises.{IsServedAs, Keeps, CanRestart, IsSettled, NamesRoot}
+use Rattle.imapd_core.specs.Runs.{formats, state_of, first_state, Run, HasMailboxes, OfRun, AfterEachCrash}
+use Rattle.imapd_core.specs.Statuses.{status_of_end, WasServed, regular_status}
+use Rattle.imapd_core.proofs.FirstTree.{has_mailboxes}
+use Rattle.imapd_core.proofs.Mixes.{rest_alike, finds_mix}
 
--- ---- At the call's start
+-- the laws of all drivers
+pub laws : AreFormats formats
+laws = record { choice = any_is_choice; reads = any_reads }
 
--- each state has the one greeting
-pub greets : (path : List ℕ) (h : History) → Now h (λ w. (state : State) → StandsFor path w.disk state → protocol.says (protocol.greeting state) greeting)
-greets path [] = tt
-greets path (world ∷ past) = λ state stands. (refl, greeting_is_said)
+-- ---- Runs
 
--- what holds for the state that the start gives
-pub at_first : (root : List ℕ) (P : State → World → Type 0) (old : History)
-    → ((state : State) → Now old (λ w. state ≡ first_state root w.disk) → Now old (P state)) → Now old (λ start. P (first_state root start.disk) start)
-at_first root P [] holds = tt
-at_first root P (start ∷ past) holds = holds (first_state root start.disk) refl
+-- what holds for each tree that the directory has
+pub of_runs : (words : List (List ℕ)) (moment : ℕ) (old : History) (P : Run → Type 0)
+    → ((root : List ℕ) → words ≡ root ∷ [] → (tree : Tree) → Now old (λ w. HasMailboxes formats root tree (seen w.disk)) → Now old (λ start. P (record { root = root; moment = moment; tree = tree; start = start })))
+    → OfRun formats words moment old P
+of_runs words moment [] P holds root are = tt
+of_runs words moment (start ∷ past) P holds root are = λ tree has. holds root are tree has
 
--- the state never changes yet
-pub same_state : (state : State) (lines : List (List ℕ)) → state_after step state lines ≡ state
-same_state state [] = refl
-same_state state (line ∷ lines) = same_state state lines
+pub one_word : (a b : List ℕ) → a ∷ [] ≡ b ∷ [] → a ≡ b
+one_word a b is = cc
+
+pub of_root : (root : List ℕ) (moment : ℕ) (old : History) (P : Run → Type 0)
+    → ((tree : Tree) → Now old (λ w. HasMailboxes formats root tree (seen w.disk)) → Now old (λ start. P (record { root = root; moment = moment; tree = tree; start = start })))
+    → OfRun formats (root ∷ []) moment old P
+of_root root moment old P holds = of_runs (root ∷ []) moment old P (λ r are. subst
+    (λ z. (tree : Tree) → Now old (λ w. HasMailboxes formats z tree (seen w.disk)) → Now old (λ start. P (record { root = z; moment = moment; tree = tree; start = start }))) (one_word root r are) holds)
+
+-- the directory has a tree
+pub of_some : (root : List ℕ) (old : History) (Q : World → Type 0) → ((tree : Tree) → Now old (λ w. HasMailboxes formats root tree (seen w.disk)) → Now old Q) → Now old Q
+of_some root [] Q holds = tt
+of_some root (start ∷ past) Q holds = let t = has_mailboxes formats laws root (seen start.disk) in holds t.0 t.1
 
 -- ---- Instants
 
--- what survives is what was left as the call began
-pub crash_left : (root : List ℕ) (old new : History)
-    → ((state : State) → Now old (λ w. state ≡ first_state root w.disk) → Now old (λ start. IsAlike state start.disk → (world : World) → Contains (worlds_since (instant old) new) world → (image : Image) → MayLeave world.disk image → (k : ℕ)
-    → Survives protocol state start world image (take k world.streams.said)))
-    → Now old (λ start. (world : World) → Contains (worlds_since (instant old) new) world → (image : Image) → MayLeave world.disk image → IsLeftOrMade (inbox_of root) start.disk image)
-crash_left root [] new survives = tt
-crash_left root (start ∷ past) new survives = λ world among image left.
-    let state = first_state root start.disk in
-    let found = survives state refl (record { left = may_make_none (inbox_of root) start.disk; durable = λ none. none }) world among image left 0 in
-    subst (λ s. Agrees s image) (same_state state (take found.n (commands protocol start world))) found.agreed
+abbrev pub CrashSince : State → History → History → World → Type 0
+CrashSince state old new start = (world : World) → Contains (worlds_since (instant old) new) world → (image : Image) → MayLeave world.disk image → (k : ℕ)
+    → Survives (protocol formats) state start world image (take k world.streams.said)
 
--- the clauses on instants, of a run that answers no line
-module _ (root : List ℕ) (old new : History) (run : (state : State) → Now old (λ w. state ≡ first_state root w.disk) → Passed (Answering protocol state []) old new) where
-  serving : (state : State) → Now old (λ w. state ≡ first_state root w.disk) → Passed (Serving protocol state) old new
-  serving state is =
-      passed_weaker (Answering protocol state []) (Serving protocol state) (opening_instant protocol state) old new (run state is)
+abbrev pub KeepsSince : Run → History → History → Type 0
+KeepsSince run old new = (world : World) → Contains (worlds_since (instant old) new) world → (image : Image) → MayLeave world.disk image → (count : ℕ) → world.streams.surely_said ≤ count
+    → Keeps formats run world image (take count world.streams.said)
 
-  pub opening_said : Now old (λ start. (world : World) → Contains (worlds_since (instant old) new) world → SaysReplies protocol (first_state root start.disk) start world)
-  opening_said = at_first root (λ state start. (world : World) → Contains (worlds_since (instant old) new) world → SaysReplies protocol state start world) old
-      (λ state is. said_since_each protocol state old new is_kept (serving state is))
+-- at rest the mix mailboxes are alike in every image
+pub keeps_since : (root : List ℕ) (moment : ℕ) (tree : Tree) (old new : History) → Now old (λ w. IsSound w.disk) → Now old (λ w. HasMailboxes formats root tree (seen w.disk))
+    → Now old (λ start. IsTreeAlike formats root tree start.disk → CrashSince (state_of root moment tree) old new start)
+    → Now old (λ start. IsAtRest start.disk → KeepsSince (record { root = root; moment = moment; tree = tree; start = start }) old new)
+keeps_since root moment tree [] new sound has holds = tt
+keeps_since root moment tree (start ∷ past) new sound has holds = λ rest world among image left count surely. holds (rest_alike formats laws root tree start.disk rest sound has) world among image left count
+
+-- at rest no directory operation is pending
+pub rest_pending : (root : List ℕ) (moment : ℕ) (tree : Tree) (old new : History) → ((run : Run) → run.root ≡ root → Now old (λ w. NonePending w.disk) → IsSettled old new run)
+    → Now old (λ start. IsAtRest start.disk → IsSettled old new (record { root = root; moment = moment; tree = tree; start = start }))
+rest_pending root moment tree [] new settled = tt
+rest_pending root moment tree (start ∷ past) new settled = λ rest. settled (record { root = root; moment = moment; tree = tree; start = start }) refl (record { none_pending = rest.none_pending })
+
+-- of a run that answers no unit
+module _ (root : List ℕ) (moment : ℕ) (tree : Tree) (old new : History) (run : Passed (Answering (protocol formats) (state_of root moment tree) NoUnits) old new) where
+  serving : Passed (Serving (protocol formats) (state_of root moment tree)) old new
+  serving = passed_weaker (Answering (protocol formats) (state_of root moment tree) NoUnits) (Serving (protocol formats) (state_of root moment tree)) (opening_instant (protocol formats) (state_of root moment tree)) old new run
+
+  pub opening_said : Now old (λ start. (world : World) → Contains (worlds_since (instant old) new) world → SaysReplies (protocol formats) (state_of root moment tree) start world)
+  opening_said = said_since_each (protocol formats) (state_of root moment tree) old new (kept formats laws) serving
 
   pub opening_bounded : Now old (λ start. (world : World) → Contains (worlds_since (instant old) new) world → IsBounded start world)
-  opening_bounded = at_first root (λ state start. (world : World) → Contains (worlds_since (instant old) new) world → IsBounded start world) old
-      (λ state is. bounded_since protocol state old new is_kept (serving state is))
+  opening_bounded = bounded_since (protocol formats) (state_of root moment tree) old new (kept formats laws) serving
 
-  pub opening_crash : Now old (λ start. (world : World) → Contains (worlds_since (instant old) new) world → (image : Image) → MayLeave world.disk image → IsLeftOrMade (inbox_of root) start.disk image)
-  opening_crash = crash_left root old new (λ state is.
-      crash_since protocol state old new is_kept says_something (λ stream later. units_first later stream) (serving state is))
+  pub opening_crash : Now old (λ start. IsTreeAlike formats root tree start.disk → CrashSince (state_of root moment tree) old new start)
+  opening_crash = crash_since (protocol formats) (state_of root moment tree) old new (kept formats laws) (says_something formats) more_units serving
+    where
+      more_units : (stream later : List ℕ) → (more : List client.Unit) × (units_of (stream ++ later) ≡ units_of stream ++ more)
+      more_units stream later = let f = units_first stream later (raw_first stream later) in (f.more, f.are_units)
+
+-- ---- Where a crash leads
+
+can_restart : (run : Run) (world : World) (image : Image) (said : List ℕ) → CanRestart formats run world image said
+can_restart run world image said =
+    let t = has_mailboxes formats laws run.root image in
+    record { tree = t.0; mailboxes = t.1; mix = λ survives agrees. finds_mix formats laws run.root t.0 image t.1 survives agrees }
+
+pub restarts : (words : List (List ℕ)) (moment : ℕ) (old new : History) → AfterEachCrash formats words moment old new (CanRestart formats)
+restarts words moment old new =
+    of_runs words moment old (λ run. IsAtRest run.start.disk → (world : World) → Contains (worlds_since (instant old) new) world → (image : Image) → MayLeave world.disk image → (count : ℕ)
+    → world.streams.surely_said ≤ count → CanRestart formats run world image (take count world.streams.said))
+    (λ root are tree has. now_all (λ start. IsAtRest start.disk → (world : World) → Contains (worlds_since (instant old) new) world → (image : Image) → MayLeave world.disk image → (count : ℕ)
+    → world.streams.surely_said ≤ count → CanRestart formats (record { root = root; moment = moment; tree = tree; start = start }) world image (take count world.streams.said))
+    (λ start rest world among image left count surely. can_restart (record { root = root; moment = moment; tree = tree; start = start }) world image (take count world.streams.said)) old)
 
 -- ---- The session
 
 -- it stands for some state
-pub some_state : (root path : List ℕ) (old new : History) → path ≡ inbox_of root
-    → ((state : State) → Now old (λ w. state ≡ first_state root w.disk) → Opened protocol (StandsFor (inbox_of root)) state old new)
-    → Now new (λ w. (state : State) × StandsFor path w.disk state)
-some_state root path [] new is opened = subst (λ h. Now h (λ w. (state : State) × StandsFor path w.disk state)) (sym (opened (first_state root no_disk) tt).here) tt
+pub some_state : (root : List ℕ) (moment : ℕ) (session : Session AnyStore) (old new : History)
+    → ((tree : Tree) → Now old (λ w. HasMailboxes formats root tree (seen w.disk)) → Opened (protocol formats) (StandsFor formats view_of session) (state_of root moment tree) old new)
+    → Now new (λ w. (state : State) × StandsFor formats view_of session w.disk state)
+some_state root moment session old [] opened = tt
+some_state root moment session [] (b ∷ more) opened = absurd (no_world (opened no_tree tt).here)
   where
-    no_disk : Disk
-    no_disk = record { durable = empty; pending = []; files = λ id. record { seen = []; durable = []; edits = [] }; next = 0 }
-some_state root path (a ∷ past) [] is opened = tt
-some_state root path (a ∷ past) (b ∷ more) is opened =
-    let state = first_state root a.disk in (state, subst (λ p. StandsFor p b.disk state) (sym is) (opened state refl).here.is_state)
+    no_tree : Tree
+    no_tree = record { nodes = empty; subscribed = [] }
 
-pub opened_at : (root path : List ℕ) (state : State) (old new : History) → path ≡ inbox_of root → Opened protocol (StandsFor (inbox_of root)) state old new → Opened protocol (StandsFor path) state old new
-opened_at root path state old new is opened = subst (λ p. Opened protocol (StandsFor p) state old new) (sym is) opened
+    no_world : b ∷ more ≡ [] → ⊥
+    no_world is = cc
+some_state root moment session (a ∷ past) (b ∷ more) opened =
+    let t = has_mailboxes formats laws root (seen a.disk) in (state_of root moment t.0, (opened t.0 t.1).here.is_state)
+
+-- from an instant at which it stands for a state its runs begin
+abbrev StandsNow : Session AnyStore → State → World → Type 0
+StandsNow session state w = StandsFor formats view_of session w.disk state
+
+pub opened_here : (session : Session AnyStore) (state : State) (h : History) → Now h (StandsNow session state) → Opened (protocol formats) (StandsFor formats view_of session) state h h
+opened_here session state [] now = record { instants = passed_none _ []; here = refl }
+opened_here session state (w ∷ past) now = record {
+  instants = passed_none _ (w ∷ past);
+  here = record { heard = refl; ended = refl; turns = refl; bytes = []; are_said = refl; said = sym (append-nil w.streams.said); is_state = now; still_alike = λ same. same };
+}
+
+-- so the loop's histories go on from there
+pub goes_on : (root : List ℕ) (moment : ℕ) (session : Session AnyStore) (old mid new : History)
+    → ((tree : Tree) → Now old (λ w. HasMailboxes formats root tree (seen w.disk)) → Opened (protocol formats) (StandsFor formats view_of session) (state_of root moment tree) old mid)
+    → ((state : State) → Opened (protocol formats) (StandsFor formats view_of session) state mid mid → Passed (Serving (protocol formats) state) mid new)
+    → (later : History) × (new ≡ later ++ mid)
+goes_on root moment session old [] new opened serves = let run = serves (state_of root moment no_tree) (opened_here session (state_of root moment no_tree) [] tt) in (run.added, run.whole)
+  where
+    no_tree : Tree
+    no_tree = record { nodes = empty; subscribed = [] }
+goes_on root moment session old (b ∷ more) new opened serves =
+    let s = some_state root moment session old (b ∷ more) opened in
+    let run = serves s.0 (opened_here session s.0 (b ∷ more) s.1) in
+    (run.added, run.whole)
+
+-- ---- The end
 
 not_served : {A : Type 0} (end : End) → IsFault end → WasServed (status_of_end end) → A
 not_served Done fault served = absurd fault
@@ -115,36 +192,26 @@ long SayFault heard is status = absurd (cc)
 long FileFault heard is status = absurd (cc)
 long Memory heard is status = absurd (cc)
 
-is_served_as : (root path : List ℕ) (end : End) (a b : World) → IsServed protocol (StandsFor path) (first_state root a.disk) end a b → IsServedAs root (status_of_end end) a b
-is_served_as root path end a b is =
-    let state = first_state root a.disk in
-    let stands = subst (StandsFor path b.disk) (same_state state (commands protocol a b)) is.is_state in
-    record {
-      said = is.said;
-      inbox = stands.1.inbox;
-      elsewhere = stands.1.elsewhere;
-      durable = subst (λ s. NonePending s.first → NonePending b.disk) (same_state state (commands protocol a b)) (is.still_alike (record { left = may_make_none (inbox_of root) a.disk; durable = λ none. none })).durable;
-      is_status = λ open_still. ap status_of_end (is.is_end open_still) ∙ regular (has_last ends (units_of (heard_since a b))) b.streams.ended (unfinished (heard_since a b));
-      is_long = long end (heard_since a b) is.is_long;
-    }
+is_served_as : (session : Session AnyStore) (end : End) (run : Run) (b : World) → IsServed (protocol formats) (StandsFor formats view_of session) (first_state run) end run.start b → IsServedAs formats (status_of_end end) run b
+is_served_as session end run b is = record {
+  said = is.said;
+  mailboxes = is.is_state.tree;
+  is_status = λ open_still. ap status_of_end (is.is_end open_still) ∙ regular (is_over (protocol formats) (heard_since run.start b)) b.streams.ended ((protocol formats).unfinished (heard_since run.start b));
+  is_long = long end (heard_since run.start b) is.is_long;
+}
 
-pub served_as : (root path : List ℕ) (end : End) (old new : History)
-    → ((state : State) → Now old (λ w. state ≡ first_state root w.disk) → IsFault end ⊎ Arrived (IsServed protocol (StandsFor path) state end) old new)
-    → WasServed (status_of_end end) → Arrived (IsServedAs root (status_of_end end)) old new
-served_as root path end [] new served was = at_none (served (first_state root no_disk) tt)
-  where
-    no_disk : Disk
-    no_disk = record { durable = empty; pending = []; files = λ id. record { seen = []; durable = []; edits = [] }; next = 0 }
+pub served_as : (session : Session AnyStore) (end : End) (root : List ℕ) (moment : ℕ) (tree : Tree) (old new : History)
+    → IsFault end ⊎ Arrived (IsServed (protocol formats) (StandsFor formats view_of session) (state_of root moment tree) end) old new
+    → WasServed (status_of_end end) → Now old (λ start. Arrived (λ a world. IsServedAs formats (status_of_end end) (record { root = root; moment = moment; tree = tree; start = start }) world) old new)
+served_as session end root moment tree [] new served was = tt
+served_as session end root moment tree (a ∷ past) new (inl fault) was = not_served end fault was
+served_as session end root moment tree (a ∷ past) [] (inr at) was = absurd at
+served_as session end root moment tree (a ∷ past) (b ∷ more) (inr at) was = is_served_as session end (record { root = root; moment = moment; tree = tree; start = a }) b at
 
-    at_none : IsFault end ⊎ (new ≡ []) → new ≡ []
-    at_none (inl fault) = not_served end fault was
-    at_none (inr none) = none
-served_as root path end (a ∷ past) new served was = here (served (first_state root a.disk) refl)
-  where
-    at_end : (new : History) → Arrived (IsServed protocol (StandsFor path) (first_state root a.disk) end) (a ∷ past) new → Arrived (IsServedAs root (status_of_end end)) (a ∷ past) new
-    at_end [] at = absurd at
-    at_end (b ∷ more) at = is_served_as root path end a b at
+-- ---- The words
 
-    here : IsFault end ⊎ Arrived (IsServed protocol (StandsFor path) (first_state root a.disk) end) (a ∷ past) new → Arrived (IsServedAs root (status_of_end end)) (a ∷ past) new
-    here (inl fault) = not_served end fault was
-    here (inr at) = at_end new at
+-- where no directory stands at the one root they name none
+pub names_none : (words : List (List ℕ)) (root : List ℕ) (old : History) → words ≡ root ∷ [] → Now old (λ w. is_directory (seen w.disk) root ≡ false) → Now old (λ w. NamesRoot words (w ∷ []) → ⊥)
+names_none words root [] are none = tt
+names_none words root (w ∷ past) are none = λ names.
+    false≢true (sym none ∙ subst (λ r. is_directory (seen w.disk) r ≡ true) (one_word names.root root (sym names.one ∙ are)) names.stands)

@@ -1,6 +1,4 @@
-pub mod Laws
-pub mod Lines
-pub mod Reading
-pub mod Replies
-pub mod Server
+pub mod Runs
+pub mod Promises
 pub mod Statuses
+pub mod Opening

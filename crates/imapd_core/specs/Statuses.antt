@@ -1,24 +1,13 @@
 -- The statuses of the top call.
-use Rattle.std.specs.Prelude.{ℕ, Bool, true, false, List, [], ◌∷◌, ◌++◌, ◌≡◌, ◌≢◌, ◌≤◌, ◌^◌, length}
-use Rattle.command_lines.specs.Stream.{units_of, unfinished}
-use Rattle.file_model.specs.Histories.{World}
+use Rattle.std.specs.Prelude.{ℕ, Bool, true, false, List, [], ◌∷◌, ◌≡◌, ◌≤◌}
 use Rattle.file_model.specs.Causes.{Faults, Rose}
-use Rattle.file_model.specs.Images.{node_at}
-use Rattle.file_model.specs.Disk.{seen}
-use Rattle.file_model.specs.Kept.{Sees, NonePending}
-use Rattle.file_model.specs.Arrived.{heard_since, said_since}
 use Rattle.session_loop.specs.declared.end.End.{End}
 use Rattle.session_loop.specs.declared.end.End.TheVariants.{Done as End-Done, Cut as End-Cut, Long as End-Long, HearFault as End-HearFault, SayFault as End-SayFault, FileFault as End-FileFault, Memory as End-Memory}
-use Rattle.session_loop.specs.Machine.{has_last}
-use Rattle.session_loop.specs.Saying.{AllSaid, lines_to}
-use Rattle.session_loop.specs.Headline.{commands}
 use Rattle.session_loop.specs.Outcome.{NoneFailed}
 use Rattle.imapd_core.specs.declared.opening.NoSession.{NoSession}
 use Rattle.imapd_core.specs.declared.opening.NoSession.TheVariants.{Words as No-Words, FileFault as No-FileFault, Memory as No-Memory}
 use Rattle.imapd_core.specs.declared.server.Status.{Status}
 use Rattle.imapd_core.specs.declared.server.Status.TheVariants.{Done, Cut, Words, HearFault, SayFault, Memory, FileFault, Long}
-use Rattle.imapd_core.specs.Replies.{ends, protocol}
-use Rattle.imapd_core.specs.Server.{inbox_of, first_node, first_state}
 
 -- the exit status of the program
 abbrev pub number_of : Status → ℕ
@@ -75,15 +64,6 @@ regular_status true ended rest = Done
 regular_status false true [] = Done
 regular_status false true (byte ∷ rest) = Cut
 regular_status false false rest = Long
-
--- A session that was served, from its start to its end: all replies were said, reads see INBOX as it was or made and all else as it was, and the status is the one that the bytes heard tell.
-pub record IsServedAs (root : List ℕ) (status : Status) (start world : World) : Type 0 where
-  pub said : AllSaid protocol.says (lines_to protocol (first_state root start.disk) (commands protocol start world)) (said_since start world)
-  pub inbox : node_at (seen world.disk) (inbox_of root) ≡ first_node (node_at (seen start.disk) (inbox_of root))
-  pub elsewhere : Sees (λ path. path ≢ inbox_of root) start.disk world.disk
-  pub durable : NonePending start.disk → NonePending world.disk
-  pub is_status : start.streams.ended ≡ false → status ≡ regular_status (has_last ends (units_of (heard_since start world))) world.streams.ended (unfinished (heard_since start world))
-  pub is_long : status ≡ Long → length (heard_since start world) ≡ 2 ^ 40
 
 -- the statuses of a failed call
 abbrev pub is_failed_status : Status → Bool

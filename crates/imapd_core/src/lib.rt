@@ -1,14 +1,10 @@
-//! The server's session and its top call: for now STATUS of INBOX, and LOGOUT (RFC 3501, sections 6.3.10 and 6.1.3).
+//! The call that serves the mailboxes of a directory to one client by IMAP (RFC 3501).
 //!
-//! A line goes through `line` (what it asks for), `inbox` (what is found) and `reply` (the bytes that are said).
-//! `opening` makes INBOX, and `server` has the call that the program makes, with the main theorem.
+//! `opening` makes INBOX before the greeting, and `server` has the call that the program makes, with the main theorem.
+//! `specs/Runs.antt` says which runs a call may be, and `specs/Promises.antt` what each of its clauses promises.
 #![tactic(auto)]
 
-mod inbox;
-mod line;
 mod opening;
-mod reading;
-mod reply;
 mod server;
 
 pub use server::{Status, imapd};

@@ -1,15 +1,11 @@
 // The top call.
 ghost use Rattle.std.specs.Prelude.{◌≡◌, ◌≤◌, ◌∷◌, [], List, ℕ, true, false, map, IfSome, IfNone, string_bytes};
-ghost use Rattle.std.specs.List.{Contains};
-ghost use Rattle.file_model.specs.Images.{Image, is_directory};
-ghost use Rattle.file_model.specs.Disk.{seen, MayLeave};
-ghost use Rattle.file_model.specs.Kept.{IsLeftOrMade};
-ghost use Rattle.file_model.specs.Histories.{World, Now, instant};
-ghost use Rattle.file_model.specs.Arrived.{Arrived, worlds_since};
-ghost use Rattle.session_loop.specs.Headline.{SaysReplies, IsBounded};
-ghost use Rattle.imapd_core.specs.Replies.{protocol};
-ghost use Rattle.imapd_core.specs.Server.{inbox_of, first_state, is_word, IsSettled};
-ghost use Rattle.imapd_core.specs.Statuses.{number_of, status_of_end, status_of_none, StatusCause, WasServed, HasRoot, IsServedAs};
+ghost use Rattle.file_model.specs.Disk.{seen};
+ghost use Rattle.file_model.specs.Histories.{Now};
+ghost use Rattle.file_model.specs.Images.{is_directory};
+ghost use Rattle.imapd_core.specs.Promises.{Says, IsServedAs, Keeps, CanRestart, IsSettled, IsShort, RefusesWords};
+ghost use Rattle.imapd_core.specs.Runs.{formats, is_word, AtEachInstant, AtTheEnd, AfterEachCrash, FromRest};
+ghost use Rattle.imapd_core.specs.Statuses.{number_of, status_of_end, status_of_none, StatusCause, WasServed, HasRoot};
 
 use crate::opening::{NoSession, open};
 use file_model::Host;
@@ -58,43 +54,32 @@ impl Status {
 pub fn imapd<H: Host>(alloc: Global, words: &[String], host: &mut H, moment: u32) -> Status
     requires moment { 1 ≤ moment }
 
-    // At each instant since the call's start what was said begins the greeting and the replies to all lines heard, up to
-    // LOGOUT; and as each `hear` began, all of these had been said, and no LOGOUT was among the lines.
-    ensures said { (root : List ℕ) → map string_bytes words.now ≡ root ∷ []
-        → Now (H.history host.old) (λ start. (world : World) → Contains (worlds_since (instant (H.history host.old)) (H.history host.new)) world
-        → SaysReplies protocol (first_state root start.disk) start world) }
+    // What was said begins the greeting and the replies to all commands heard, and no reply waited for a `hear`.
+    ensures says { AtEachInstant formats (map string_bytes words.now) moment (H.history host.old) (H.history host.new) (Says formats) }
 
-    // Where the session was served to its end, all replies were said, and the status is the one that the bytes heard tell.
-    ensures served { (root : List ℕ) → map string_bytes words.now ≡ root ∷ [] → WasServed result
-        → Arrived (IsServedAs root result) (H.history host.old) (H.history host.new) }
+    // Where the session was served to its end all replies were said, reads see the mailboxes after them, and the status is the one that the bytes heard tell.
+    ensures served { WasServed result → AtTheEnd formats (map string_bytes words.now) moment (H.history host.old) (H.history host.new) (IsServedAs formats result) }
 
-    // Whatever a crash leaves at an instant was there as the call began, but that an empty INBOX may have been made.
-    ensures crash { (root : List ℕ) → map string_bytes words.now ≡ root ∷ []
-        → Now (H.history host.old) (λ start. (world : World) → Contains (worlds_since (instant (H.history host.old)) (H.history host.new)) world
-        → (image : Image) → MayLeave world.disk image → IsLeftOrMade (inbox_of root) start.disk image) }
+    // Whatever a crash leaves and finds said: one number of commands serves all mix mailboxes, among them all whose replies were said.
+    ensures crash { AfterEachCrash formats (map string_bytes words.now) moment (H.history host.old) (H.history host.new) (Keeps formats) }
 
-    // Nothing is said before an INBOX that was made is settled.
-    ensures settled { (root : List ℕ) → map string_bytes words.now ≡ root ∷ []
-        → Now (H.history host.old) (λ start. (world : World) → Contains (worlds_since (instant (H.history host.old)) (H.history host.new)) world
-        → IsSettled root start world) }
+    // And the next run can begin there, with these mailboxes.
+    ensures restart { AfterEachCrash formats (map string_bytes words.now) moment (H.history host.old) (H.history host.new) (CanRestart formats) }
 
-    // Whatever the status, at most 2^40 bytes were heard, and each turn but the last heard at least one.
-    ensures bounded { Now (H.history host.old) (λ start. (world : World) → Contains (worlds_since (instant (H.history host.old)) (H.history host.new)) world
-        → IsBounded start world) }
+    // Nothing is said before INBOX stands and is settled.
+    ensures settled { FromRest formats (map string_bytes words.now) moment (H.history host.old) (IsSettled (H.history host.old) (H.history host.new)) }
 
-    // The words are refused exactly where they aren't one root at which a directory stands, and then nothing is changed or said.
-    ensures no_root { ((root : List ℕ) → map string_bytes words.now ≡ root ∷ [] → is_word root ≡ false) → result ≡ Status.Words }
-    ensures words { result ≡ Status.Words → (root : List ℕ) → map string_bytes words.now ≡ root ∷ [] → is_word root ≡ true
-        → Now (H.history host.old) (λ w. is_directory (seen w.disk) root ≡ false) }
-    ensures root { HasRoot result → (root : List ℕ) → map string_bytes words.now ≡ root ∷ []
-        → Now (H.history host.old) (λ w. is_directory (seen w.disk) root ≡ true) }
-    ensures quiet { result ≡ Status.Words → H.history host.new ≡ H.history host.old }
+    // At most 2^40 bytes were heard, and each turn but the last heard one.
+    ensures short { IsShort (H.history host.old) (H.history host.new) }
 
+    // The words are refused exactly where they aren't one root at which a directory stands; then nothing is done.
+    ensures words { RefusesWords (map string_bytes words.now) result (H.history host.old) (H.history host.new) }
+
+    // Each fault has its cause: the count of failed calls of its kind rose.
     ensures cause { StatusCause (H.faults host.old) (H.faults host.new) result }
 {
-    let _moment = moment;
     match root_of(words) {
-        Some(root) => serve_root(alloc, host, root),
+        Some(root) => serve_root(alloc, host, root, moment),
         None => Status::Words,
     }
 }
@@ -129,24 +114,22 @@ fn is_word(word: &[u8]) -> bool
 }
 
 // Serves the mailboxes of a root, with the clauses of the top call.
-fn serve_root<H: Host>(alloc: Global, host: &mut H, root: &str) -> Status
-    requires { is_word root.now ≡ true }
-    ensures said { Now (H.history host.old) (λ start. (world : World) → Contains (worlds_since (instant (H.history host.old)) (H.history host.new)) world
-        → SaysReplies protocol (first_state root.now start.disk) start world) }
-    ensures served { WasServed result → Arrived (IsServedAs root.now result) (H.history host.old) (H.history host.new) }
-    ensures crash { Now (H.history host.old) (λ start. (world : World) → Contains (worlds_since (instant (H.history host.old)) (H.history host.new)) world
-        → (image : Image) → MayLeave world.disk image → IsLeftOrMade (inbox_of root.now) start.disk image) }
-    ensures settled { Now (H.history host.old) (λ start. (world : World) → Contains (worlds_since (instant (H.history host.old)) (H.history host.new)) world
-        → IsSettled root.now start world) }
-    ensures bounded { Now (H.history host.old) (λ start. (world : World) → Contains (worlds_since (instant (H.history host.old)) (H.history host.new)) world
-        → IsBounded start world) }
+fn serve_root<H: Host>(alloc: Global, host: &mut H, root: &str, moment: u32) -> Status
+    requires word { is_word root.now ≡ true }
+    requires moment { 1 ≤ moment }
+    ensures says { AtEachInstant formats (root.now ∷ []) moment (H.history host.old) (H.history host.new) (Says formats) }
+    ensures served { WasServed result → AtTheEnd formats (root.now ∷ []) moment (H.history host.old) (H.history host.new) (IsServedAs formats result) }
+    ensures crash { AfterEachCrash formats (root.now ∷ []) moment (H.history host.old) (H.history host.new) (Keeps formats) }
+    ensures restart { AfterEachCrash formats (root.now ∷ []) moment (H.history host.old) (H.history host.new) (CanRestart formats) }
+    ensures settled { FromRest formats (root.now ∷ []) moment (H.history host.old) (IsSettled (H.history host.old) (H.history host.new)) }
+    ensures short { IsShort (H.history host.old) (H.history host.new) }
     ensures words { result ≡ Status.Words → Now (H.history host.old) (λ w. is_directory (seen w.disk) root.now ≡ false) }
     ensures root { HasRoot result → Now (H.history host.old) (λ w. is_directory (seen w.disk) root.now ≡ true) }
     ensures quiet { result ≡ Status.Words → H.history host.new ≡ H.history host.old }
     ensures cause { StatusCause (H.faults host.old) (H.faults host.new) result }
 {
-    match open(alloc, host, root) {
-        Ok(mut inbox) => status_of_end(serve(alloc, &mut inbox, host, GREETING)),
+    match open(alloc, host, root, moment) {
+        Ok(mut server) => status_of_end(serve(alloc, &mut server, host, GREETING)),
         Err(no_session) => status_of_none(no_session),
     }
 }

@@ -4,7 +4,7 @@ use Rattle.file_model.specs.Disk.{seen}
 use Rattle.file_model.specs.Images.{node_at, nothing}
 use Rattle.file_model.specs.Histories.{Now}
 use Rattle.file_model.specs.Kinds.{CanMake}
-use Rattle.imapd_core.proofs.Opened.{nothing_now, there_ended, inbox_makes}
+use Rattle.imapd_core.proofs.InboxMade.{nothing_now, there_ended, inbox_makes}
 use Rattle.imapd_core.proofs.opening.make_missing.Goals as goal
 
 file_there : (len : ℕ) → File len ≡ Nothing → ⊥

@@ -3,7 +3,7 @@ use Rattle.file_model.specs.Disk.{seen}
 use Rattle.file_model.specs.Images.{is_directory}
 use Rattle.file_model.specs.Histories.{Now}
 use Rattle.file_model.proofs.Calls.{sync_dir_at}
-use Rattle.imapd_core.proofs.Opened.{made_ran, settled_ran, settled_made, still_room}
+use Rattle.imapd_core.proofs.InboxMade.{made_ran, settled_ran, settled_made, still_room}
 use Rattle.imapd_core.proofs.opening.make_settled.Goals as goal
 
 pub returns-in_err-make-clause-instants : goal.returns-in_err-make-clause-instants
