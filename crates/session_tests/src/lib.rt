@@ -9,6 +9,12 @@ mod failing_calls;
 #[cfg(test)]
 mod limits;
 #[cfg(test)]
+mod messages;
+#[cfg(test)]
+mod names;
+#[cfg(test)]
+mod pairs;
+#[cfg(test)]
 mod replies;
 #[cfg(test)]
 mod run;

@@ -1,63 +1,50 @@
-//! What is said to a client's lines, each run also with a byte for each read of the input.
-use crate::run::{add_input, host, outcome, run};
-use std::alloc::{AllocError, Global};
+//! Lines, tags and the commands that need no mailbox, each run also with a byte for each read of the input.
+use crate::run::answered;
 use std::test::Fail;
-use test_tables::{Row, rows};
+use test_tables::rows;
 
-// The disk and the input; the status, what is said behind the greeting, and INBOX afterwards.
+// The disk and the input; what is said, and what stands otherwise afterwards.
 const CASES: &str = r#"
-# an empty inbox has no message
-file  | a STATUS INBOX (MESSAGES)\r\nb LOGOUT\r\n => Done | * STATUS INBOX (MESSAGES 0)\r\na OK STATUS done\r\n* BYE bye\r\nb OK LOGOUT done\r\n | file \e
-# a missing inbox is made
-root | a STATUS INBOX (MESSAGES)\r\nb LOGOUT\r\n => Done | * STATUS INBOX (MESSAGES 0)\r\na OK STATUS done\r\n* BYE bye\r\nb OK LOGOUT done\r\n | file \e
-# a missing inbox is made where nothing is asked
-root |  => Done |  | file \e
-# a from line without a date is text
-file From a@b Mon Apr  1 12:00:00 2024\nSubject: x\n\nFrom here on\nok\n | a STATUS INBOX (MESSAGES)\r\nb LOGOUT\r\n => Done | * STATUS INBOX (MESSAGES 1)\r\na OK STATUS done\r\n* BYE bye\r\nb OK LOGOUT done\r\n | file From a@b Mon Apr  1 12:00:00 2024\nSubject: x\n\nFrom here on\nok\n
-# a from line with a date begins a message
-file From a@b Mon Apr  1 12:00:00 2024\nSubject: x\n\nFrom c@d Tue Apr  2 08:00:00 2024\nok\n | a STATUS INBOX (MESSAGES)\r\nb LOGOUT\r\n => Done | * STATUS INBOX (MESSAGES 2)\r\na OK STATUS done\r\n* BYE bye\r\nb OK LOGOUT done\r\n | file From a@b Mon Apr  1 12:00:00 2024\nSubject: x\n\nFrom c@d Tue Apr  2 08:00:00 2024\nok\n
-# a last line without a line end counts
-file From Mon Apr  1 12:00:00 2024\n\nFrom x Tue Apr 02 08:00 PST 2024 | a STATUS INBOX (MESSAGES)\r\nb LOGOUT\r\n => Done | * STATUS INBOX (MESSAGES 2)\r\na OK STATUS done\r\n* BYE bye\r\nb OK LOGOUT done\r\n | file From Mon Apr  1 12:00:00 2024\n\nFrom x Tue Apr 02 08:00 PST 2024
-# a text without a delimiter line is ill-formed
-file hello\n | a STATUS INBOX (MESSAGES)\r\nb LOGOUT\r\n => Done | a NO ill-formed unix store after 0 records\r\n* BYE bye\r\nb OK LOGOUT done\r\n | file hello\n
-# internal data in the header is not built
-file From a@b Mon Apr  1 12:00:00 2024\nx-ImaP:1\n\n | a STATUS INBOX (MESSAGES)\r\nb LOGOUT\r\n => Done | a NO not built\r\n* BYE bye\r\nb OK LOGOUT done\r\n | file From a@b Mon Apr  1 12:00:00 2024\nx-ImaP:1\n\n
-# behind the first empty line it is text
-file From a@b Mon Apr  1 12:00:00 2024\nA: b\r\n\r\nX-IMAP: 1\n | a STATUS INBOX (MESSAGES)\r\nb LOGOUT\r\n => Done | * STATUS INBOX (MESSAGES 1)\r\na OK STATUS done\r\n* BYE bye\r\nb OK LOGOUT done\r\n | file From a@b Mon Apr  1 12:00:00 2024\nA: b\r\n\r\nX-IMAP: 1\n
-# internal data comes before an ill-formed text
-file X-IMAP: | a STATUS INBOX (MESSAGES)\r\nb LOGOUT\r\n => Done | a NO not built\r\n* BYE bye\r\nb OK LOGOUT done\r\n | file X-IMAP:
-# a directory at inbox is not built
-dir | a STATUS INBOX (MESSAGES)\r\nb LOGOUT\r\n => Done | a NO not built\r\n* BYE bye\r\nb OK LOGOUT done\r\n | none
-# the input ends inside a line
-file  | a NOOP\r\nb LOG => Cut | a BAD not built\r\n | file \e
-# the input ends between two lines
-file  | a NOOP\r\n => Done | a BAD not built\r\n | file \e
-# the input ends behind a CR
-file  | a LOGOUT\r => Cut |  | file \e
+# a missing inbox is made, where nothing is asked too
+root |  =>  +INBOX
+root | a STATUS INBOX (MESSAGES);b LOGOUT; => * STATUS INBOX (MESSAGES 0);a OK STATUS done;* BYE bye;b OK LOGOUT done; +INBOX
+file  | a STATUS INBOX (MESSAGES);b LOGOUT; => * STATUS INBOX (MESSAGES 0);a OK STATUS done;* BYE bye;b OK LOGOUT done;
+# any case
+file  | a capability;b Noop;c logout; => * CAPABILITY IMAP4rev1;a OK CAPABILITY done;b OK NOOP done;* BYE bye;c OK LOGOUT done;
+# passwords are not read
+file  | a STARTTLS;b LOGIN me (secret;c AUTHENTICATE PLAIN; => a NO STARTTLS not available;b NO LOGIN not available;c NO AUTHENTICATE not available;
+# the input ends inside a line, between two lines, behind a CR
+file  | a NOOP;b LOG => Cut: a OK NOOP done;
+file  | a NOOP; => a OK NOOP done;
+file  | a LOGOUT\r => Cut: 
 # nothing is answered behind LOGOUT
-file  | a LOGOUT\r\nb LOGOUT\r\nc => Done | * BYE bye\r\na OK LOGOUT done\r\n | file \e
-# an empty line has no tag
-file  | \r\n => Done | * BAD not built\r\n | file \e
-# a tag of 64 bytes
-file  | aaaaaaaaaaaaaaaaaaaaaaaaaaaaaaaaaaaaaaaaaaaaaaaaaaaaaaaaaaaaaaaa LOGOUT\r\n => Done | * BYE bye\r\naaaaaaaaaaaaaaaaaaaaaaaaaaaaaaaaaaaaaaaaaaaaaaaaaaaaaaaaaaaaaaaa OK LOGOUT done\r\n | file \e
-# a tag of 65 bytes is none
-file  | aaaaaaaaaaaaaaaaaaaaaaaaaaaaaaaaaaaaaaaaaaaaaaaaaaaaaaaaaaaaaaaaa LOGOUT\r\n => Done | * BAD not built\r\n | file \e
-# a tag with a plus is none
-file  | a+b LOGOUT\r\n]a LOGOUT\r\n => Done | * BAD not built\r\n* BAD not built\r\n | file \e
-# a line without a space is its tag
-file  | LOGOUT\r\n => Done | LOGOUT BAD not built\r\n | file \e
-# letters are as they are written
-file  | a status inbox (messages)\r\nb logout\r\n => Done | a BAD not built\r\nb BAD not built\r\n | file \e
-# one CR belongs to the line end
-file  | a LOGOUT\r\r\n => Done | a BAD not built\r\n | file \e
-# a lone LF is a byte of the line
-file  | a LOGOUT\nb LOGOUT\r\n => Done | a BAD not built\r\n | file \e
-# a lone CR is a byte of the line
-file  | a LOGOUT\rb\r\n => Done | a BAD not built\r\n | file \e
-# a word too many
-file  | a LOGOUT \r\na  LOGOUT\r\na STATUS INBOX (MESSAGES UIDNEXT)\r\n => Done | a BAD not built\r\na BAD not built\r\na BAD not built\r\n | file \e
-# each STATUS reads INBOX anew
-file From a@b Mon Apr  1 12:00:00 2024\nSubject: x\n\nFrom here on\nok\n | a STATUS INBOX (MESSAGES)\r\nb STATUS INBOX (MESSAGES)\r\n => Done | * STATUS INBOX (MESSAGES 1)\r\na OK STATUS done\r\n* STATUS INBOX (MESSAGES 1)\r\nb OK STATUS done\r\n | file From a@b Mon Apr  1 12:00:00 2024\nSubject: x\n\nFrom here on\nok\n
+file  | a LOGOUT;b LOGOUT;c => * BYE bye;a OK LOGOUT done;
+# no tag: an empty line, one of 65 bytes, one with a plus
+file  | ; => * BAD no tag;
+file  | \(65:a\) NOOP; => * BAD no tag;
+file  | \(64:a\) NOOP; => \(64:a\) OK NOOP done;
+file  | a+b NOOP;]a NOOP; => * BAD no tag;* BAD no tag;
+# no command, an unknown one, an argument that is missing or not understood, and text behind
+file  | LOGOUT; => LOGOUT BAD no command;
+file  | a XYZZY;b SELECT;c SELECT (;d NOOP x; => a BAD unknown command;b BAD argument missing;c BAD argument not understood;d BAD text after the command;
+file  | a FETCH 0 FLAGS;b FETCH 4294967296 FLAGS;c NO\0OP; => a BAD number out of range;b BAD number out of range;c BAD NUL in the command;
+# one CR belongs to the line end, and a CR or LF alone is a byte of the line
+file  | a NOOP\r;b NOOP\nc NOOP;d NOOP\re; => a BAD text after the command;b BAD text after the command;d BAD text after the command;
+# a literal is announced, and a large one is not
+file  | a SELECT {5};INBOX;b SELECT {16777217};c NOOP; => + Ready;* FLAGS (\\Seen \\Answered \\Flagged \\Deleted \\Draft);* 0 EXISTS;* 0 RECENT;* OK [PERMANENTFLAGS (\\Seen \\Answered \\Flagged \\Deleted \\Draft \\*)] flags kept;* OK [UIDNEXT 1] next UID;* OK [UIDVALIDITY 1001] UIDs valid;a OK [READ-WRITE] SELECT done;b NO literal too large;c OK NOOP done;
+# a literal holds what it says, and a line goes on behind it
+file  | a LIST {0}; {1};%; => + Ready;+ Ready;* LIST (\\NoInferiors) "/" INBOX;a OK LIST done;
+# no mailbox is selected
+file  | a CHECK;b CLOSE;c EXPUNGE;d FETCH 1 FLAGS;e STORE 1 FLAGS ();f UID FETCH 1 FLAGS; => a BAD no mailbox selected;b BAD no mailbox selected;c BAD no mailbox selected;d BAD no mailbox selected;e BAD no mailbox selected;f BAD no mailbox selected;
+# what isn't built
+file  | a SEARCH ALL;b FETCH 1 BODY[];c FETCH 1 (FLAGS ENVELOPE); => a BAD not built;b BAD not built;c BAD not built;
+# the first reason or refusal counts
+mail | a FROB;b FETCH 1 FLAGS;c SELECT ../x;d DELETE inbox;e NOOP x; => a BAD unknown command;b BAD no mailbox selected;c NO bad mailbox name;d NO INBOX is reserved;e BAD text after the command;
+# an inbox that isn't a mailbox
+file hello\n | a SELECT INBOX;b STATUS INBOX (MESSAGES); => a NO not a mailbox;b NO not a mailbox;
+dir | a SELECT INBOX;b STATUS INBOX (MESSAGES); => a NO not a mailbox;b NO not a mailbox;
+# internal data is read as such
+file From a@b Mon Apr  1 12:00:00 2024\nX-IMAP: 5 9\nA: b\n\nc\n | a STATUS INBOX (UIDVALIDITY UIDNEXT MESSAGES); => * STATUS INBOX (UIDVALIDITY 5 UIDNEXT 10 MESSAGES 0);a OK STATUS done;
 "#;
 
 #[test]
@@ -67,13 +54,4 @@ fn lines_are_answered(rt: HostRuntime) -> Result<(), Fail> {
         row.agrees(answered(rt.alloc(), row, true)?.as_slice())?;
     }
     Ok(())
-}
-
-fn answered(alloc: Global, row: &Row, bytewise: bool) -> Result<Vec<u8>, AllocError> {
-    let case = str::from_utf8(row.text.as_slice()).unwrap_or("");
-    let (disk, input) = case.split_once(" | ").unwrap_or((case, ""));
-    let mut host = host(alloc, disk)?;
-    add_input(&mut host, input.as_bytes(), bytewise)?;
-    let status = run(alloc, &mut host)?;
-    outcome(alloc, &host, status)
 }

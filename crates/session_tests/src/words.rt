@@ -6,20 +6,20 @@ use std::process::Abort;
 use std::test::Fail;
 use test_tables::{Row, rows};
 
-// The words, each with a semicolon behind it; the status, what is said and INBOX.
+// The words, each with a semicolon behind it; the status, and what is said.
 const CASES: &str = r#"
 # no words, two words, and an empty word
-\e => Words | nothing | file hello\n
-/m;/m; => Words | nothing | file hello\n
-; => Words | nothing | file hello\n
+\e => Words: nothing
+/m;/m; => Words: nothing
+; => Words: nothing
 # a word that names a file, one at which nothing stands, one below a file, and one with NUL
-/m/INBOX; => Words | nothing | file hello\n
-/n; => Words | nothing | file hello\n
-/m/INBOX/x; => Words | nothing | file hello\n
-/m\0; => Words | nothing | file hello\n
+/m/INBOX; => Words: nothing
+/n; => Words: nothing
+/m/INBOX/x; => Words: nothing
+/m\0; => Words: nothing
 # the longest root, at which a directory stands, and one byte more
-/\(1023:x\); => Done | * BYE bye\r\na OK LOGOUT done\r\n | file hello\n
-/\(1024:x\); => Words | nothing | file hello\n
+/\(1023:x\); => * BYE bye;a OK LOGOUT done; +/\(1023:x\)/INBOX
+/\(1024:x\); => Words: nothing
 "#;
 
 // At each of the long words a directory stands.
@@ -50,7 +50,7 @@ fn found(rt: &impl Abort, alloc: Global, row: &Row) -> Result<Vec<u8>, AllocErro
     let mut host = host_of(alloc)?;
     let status = run_words(alloc, &mut host, words.as_slice());
     assert!(rt; !host.said().is_empty() || host.calls() <= 1);
-    outcome(alloc, &host, status)
+    outcome(alloc, &host_of(alloc)?, &host, status, "")
 }
 
 fn words_of(alloc: Global, text: &str) -> Result<Vec<String>, AllocError> {

@@ -3,8 +3,8 @@ use crate::disk::ROOT;
 use any_store::{AnyStore, is_known};
 use bare_host::BareHost;
 use mail_tree::{
-    Listed, Name, Target, TreeFault, create, create_dir, delete, lsub, open, rename, subscribe,
-    unsubscribe,
+    Listed, Name, Target, TreeFault, create, create_dir, delete, list, lsub, open, rename,
+    subscribe, unsubscribe,
 };
 use mail_types::Driver;
 use std::alloc::{AllocError, Global};
@@ -210,6 +210,18 @@ fn lsub_call(alloc: Global, host: &mut BareHost, text: &str) -> Result<String, A
     list_text(alloc, names)
 }
 
+fn list_call(alloc: Global, host: &mut BareHost, text: &str) -> Result<String, AllocError> {
+    let (reference, pattern) = word(text);
+    let names = list::<BareHost, AnyStore>(
+        alloc,
+        host,
+        ROOT,
+        argument(reference),
+        argument(pattern),
+    );
+    list_text(alloc, names)
+}
+
 /// Makes one call, and shows its answer.
 pub(crate) fn call(alloc: Global, host: &mut BareHost, text: &str) -> Result<String, Fail> {
     let (verb, rest) = word(text);
@@ -221,6 +233,7 @@ pub(crate) fn call(alloc: Global, host: &mut BareHost, text: &str) -> Result<Str
         "subscribe" => subscribe_call(alloc, host, rest),
         "unsubscribe" => unsubscribe_call(alloc, host, rest),
         "lsub" => lsub_call(alloc, host, rest),
+        "list" => list_call(alloc, host, rest),
         "subscribed" => subscribed_text(alloc, host),
         _ => return Err(Fail::new("an unknown call")),
     };

@@ -28,6 +28,8 @@ d/x|rename d/x y => d/ d/x|d/ y
 d/x|open d/x => d/ d/x
 d/x=*mbx*\r\n|open d/x => d/ d/x
 .mailboxlist=a\nb\n|lsub "" * => .mailboxlist
+a/b/c&d=*mbx*\r\n&e/.mixmeta|list "" * => a/ a/b/ a/b/c d e/ e/.mixmeta
+a/b/c&INBOX|list a/ % => INBOX a/ a/b/ a/b/c
 "#;
 
 fn last_of(states: &str) -> &str {

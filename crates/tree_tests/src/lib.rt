@@ -8,6 +8,8 @@ mod disk;
 #[cfg(test)]
 mod failing;
 #[cfg(test)]
+mod lists;
+#[cfg(test)]
 mod names;
 #[cfg(test)]
 mod runs;

@@ -37,6 +37,20 @@ pub(crate) fn all_run(alloc: Global, table: &str) -> Result<(), Fail> {
     Ok(())
 }
 
+fn only_answers(alloc: Global, row: &Row) -> Result<(), Fail> {
+    let (disk, calls) = cut(text(row.text.as_slice())?);
+    let mut host = host_of(alloc, disk)?;
+    row.agrees(answers(alloc, &mut host, calls)?.as_bytes())
+}
+
+/// The same of rows whose calls write nothing: `DISK|CALLS => ANSWERS`.
+pub(crate) fn all_answer(alloc: Global, table: &str) -> Result<(), Fail> {
+    for row in &rows(alloc, table)? {
+        only_answers(alloc, row)?;
+    }
+    Ok(())
+}
+
 const OPENING: &str = r#"
 # files by their first line, and directories
 a&b=From x Mon Apr  1 12:00:00 2024\n&c=junk\n&d/|open a;open b;open c;open d;open e => unix 77 0;unix 77 1;not a mailbox;not a mailbox;no such mailbox|a b c d/
