@@ -1,6 +1,6 @@
 -- What one driver's store says of its forms, said of the forms of all. One lemma a record, for every driver.
 use Rattle.std.proofs.Common.{◌≡◌, ℕ, List, true, false, sym, ◌∙◌, ap, subst, length, Some, Ok, OnOk, Result}
-use Rattle.std.specs.Prelude.{IsTrue}
+use Rattle.std.specs.Prelude.{IsSome, IsTrue}
 use Rattle.file_model.specs.Disk.{seen}
 use Rattle.file_model.specs.Histories.{History, Now, Ran, Ended}
 use Rattle.file_model.specs.Images.{Image, bytes_at}
@@ -76,6 +76,8 @@ module _ (mine all : Forms) (v : View) (shares : SharesForm v.driver mine all) w
     answers_all given = record {
       due = subst (λ g. v.broken ≡ false → Now old (λ w. (before : StoreContents) → IsWritten g (seen w.disk) before
           → Answers (due_refusal g.written_length v.driver before (v.mailbox (seen w.disk)) change) result)) same given.due;
+      acts = subst (λ g. v.broken ≡ false → Now old (λ w. (before : StoreContents) → IsWritten g (seen w.disk) before
+          → IsSome (due_refusal g.written_length v.driver before (v.mailbox (seen w.disk)) change) → new ≡ old)) same given.acts;
       nothing = given.nothing;
     }
 

@@ -29,7 +29,7 @@ use Rattle.store_trait.specs.declared.change.Change.{Change}
 use Rattle.store_trait.specs.declared.change.Change.TheVariants.{Append, SetFlags, Expunge}
 use Rattle.store_trait.specs.declared.faults.StoreFault.{StoreFault}
 use Rattle.store_trait.specs.declared.faults.StoreFault.TheVariants.{NoUid, TooMany, TooLarge}
-use Rattle.store_trait.specs.Answers.{Breaks, breaks}
+use Rattle.store_trait.specs.Answers.{Answers, Breaks, breaks}
 use Rattle.store_trait.specs.Changes.{CanChange, IsSized, changed_mailbox, is_nothing, words_after, due_refusal, first_due, outgrows}
 use Rattle.store_trait.specs.Forms.{grammar_of}
 use Rattle.store_trait.specs.Having.{CanSpell, IsBacked}
@@ -336,21 +336,33 @@ module _ (driver : Driver) (form : ReadForm) (is_form : IsReadForm driver form) 
         let found = as_spelled (forms_of driver form) driver of_file s.path image before written.0 written.1 in
         subst (λ m. due_refusal (λ l. length (form.file.written l)) driver before m change ≡ fault) (sym (stands_for driver form held s image here.bytes here.has)) (due before (placed found.bytes before written.0 found.spells))
 
+    -- where none is due by what the store tells
+    none_due : told_due (keeps_of driver) s.told change ≡ None → Fits driver form held s.told change → (h : History) → Now h (λ w. StandsOn driver form held s.path s.told (seen w.disk))
+        → Now h (λ w. (before : StoreContents) → IsWritten (grammar_of (forms_of driver form) driver s.path) (seen w.disk) before
+        → due_refusal (λ l. length (form.file.written l)) driver before ((file_view driver form held s).mailbox (seen w.disk)) change ≡ None)
+    none_due none fits h stands = now_weaker _ _ (λ w here before written.
+        due_there None (seen w.disk) here (λ c at. due_none s.told here.bytes here.is c at change some none (fits here.bytes here.places here.is)) before written) h stands
+
     -- a call that isn't refused ends well or breaks the store
     pub answers_file : told_due (keeps_of driver) s.told change ≡ None → Fits driver form held s.told change → (result : Result (Unit {0}) StoreFault) (old new : History)
         → Now old (λ w. StandsOn driver form held s.path s.told (seen w.disk)) → (IsErr result → Breaks result) → AnswersChange (forms_of driver form) (file_view driver form held s) change result old new
-    answers_file none fits (Ok u) old new stands answer = record {
-      due = λ whole. now_weaker _ _ (λ w here before written.
-          due_there None (seen w.disk) here (λ c at. due_none s.told here.bytes here.is c at change some none (fits here.bytes here.places here.is)) before written) old stands;
+    answers_file none fits result old new stands answer = record {
+      due = λ whole. by_result result answer;
+      acts = λ whole. now_weaker _ _ (λ w due before written is_due. absurd (false≢true (subst IsSome (due before written) is_due))) old (none_due none fits old stands);
       nothing = λ is. absurd (cc);
     }
-    answers_file none fits (Err fault) old new stands answer = record { due = λ whole. always _ (λ w before written. inr (answer refl)) old; nothing = λ is. absurd (cc) }
+      where
+        by_result : (result : Result (Unit {0}) StoreFault) → (IsErr result → Breaks result) → Now old (λ w. (before : StoreContents) → IsWritten (grammar_of (forms_of driver form) driver s.path) (seen w.disk) before
+            → Answers (due_refusal (λ l. length (form.file.written l)) driver before ((file_view driver form held s).mailbox (seen w.disk)) change) result)
+        by_result (Ok u) answer = none_due none fits old stands
+        by_result (Err fault) answer = always _ (λ w before written. inr (answer refl)) old
 
     -- the refusal that is due
-    pub refuses_file : (fault : StoreFault) → IsRefused driver form held s.told change fault → (old new : History) → Now old (λ w. StandsOn driver form held s.path s.told (seen w.disk))
-        → AnswersChange (forms_of driver form) (file_view driver form held s) change (Err fault) old new
-    refuses_file fault is old new stands = record {
-      due = λ whole. now_weaker _ _ (λ w here before written. inl (due_there (Some fault) (seen w.disk) here (λ c at. by_cause here.bytes here.places here.is c at is.due) before written)) old stands;
+    pub refuses_file : (fault : StoreFault) → IsRefused driver form held s.told change fault → (h : History) → Now h (λ w. StandsOn driver form held s.path s.told (seen w.disk))
+        → AnswersChange (forms_of driver form) (file_view driver form held s) change (Err fault) h h
+    refuses_file fault is h stands = record {
+      due = λ whole. now_weaker _ _ (λ w here before written. inl (due_there (Some fault) (seen w.disk) here (λ c at. by_cause here.bytes here.places here.is c at is.due) before written)) h stands;
+      acts = λ whole. always _ (λ w before written is_due. refl) h;
       nothing = λ is. absurd (cc);
     }
       where

@@ -1,6 +1,6 @@
 -- What the clauses of `Store` and `Format` say, each as a record of facts.
 -- `was` and `is` are the views of a store at a call's start and end, `old` and `new` the host's histories.
-use Rattle.std.specs.Prelude.{ℕ, true, false, List, ◌≡◌, ◌≤◌, ◌+◌, ◌*◌, ◌-◌, ◌⊎◌, ◌↔◌, min, take, drop, length, Some, Result, Ok, Err, OnOk, IsErrOf, IsTrue}
+use Rattle.std.specs.Prelude.{ℕ, true, false, List, ◌≡◌, ◌≤◌, ◌+◌, ◌*◌, ◌-◌, ◌⊎◌, ◌↔◌, min, take, drop, length, Some, IsSome, Result, Ok, Err, OnOk, IsErrOf, IsTrue}
 use Rattle.file_model.specs.Causes.{Faults}
 use Rattle.file_model.specs.Disk.{seen}
 use Rattle.file_model.specs.Images.{Image, bytes_at}
@@ -94,10 +94,12 @@ pub record LeavesAlone {T : Type 0} (touched free : List ℕ → Type 0) (result
 -- ---- A change
 
 -- Which answer comes: Broken exactly from a store that is broken, else the refusal that is due, by what the files say and the store stands for.
--- A call that is given nothing does nothing.
+-- Where one is due nothing is done, whatever the answer; a call that is given nothing does nothing.
 pub record AnswersChange (forms : Forms) (was : View) (change : Change) (result : Result (Unit {0}) StoreFault) (old new : History) : Type 0 where
   pub due : was.broken ≡ false → Now old (λ w. (before : StoreContents) → IsWritten (grammar_of forms was.driver was.path) (seen w.disk) before
       → Answers (due_refusal (grammar_of forms was.driver was.path).written_length was.driver before (was.mailbox (seen w.disk)) change) result)
+  pub acts : was.broken ≡ false → Now old (λ w. (before : StoreContents) → IsWritten (grammar_of forms was.driver was.path) (seen w.disk) before
+      → IsSome (due_refusal (grammar_of forms was.driver was.path).written_length was.driver before (was.mailbox (seen w.disk)) change) → new ≡ old)
   pub nothing : IsTrue (is_nothing was.summary.words change) → (new ≡ old) × (was.broken ≡ false → result ≡ Ok tt)
 
 -- the files say what is stored of the changed mailbox, and that is what opening finds
