@@ -14,9 +14,11 @@ use Rattle.file_model.proofs.Inside.{Under, Slash, child_inside, inside_is, is_u
 use Rattle.file_model.proofs.Names.{other_path}
 use Rattle.mail_types.specs.declared.driver.Driver.{Driver}
 use Rattle.mail_types.specs.declared.driver.Driver.TheVariants.{Unix, Mmdf, Mbx, Mtx, Tenex, Mh, Mix}
+use Rattle.store_trait.specs.declared.change.Change.{Change}
+use Rattle.store_trait.specs.Changes.{is_nothing}
 use Rattle.store_trait.specs.Laws.{IsReading, IsView}
 use Rattle.store_trait.specs.Meaning.{AgreeAt}
-use Rattle.store_trait.specs.OwnPaths.{is_directory_driver, IsNoPath, MayClear, RestsOn}
+use Rattle.store_trait.specs.OwnPaths.{is_directory_driver, IsNoPath, MayChange, MayClear, RestsOn}
 use Rattle.store_trait.specs.Touching.{SeesBut}
 use Rattle.store_trait.specs.Views.{View}
 use Rattle.store_trait.proofs.Grammars.{written_stays}
@@ -26,11 +28,11 @@ use Rattle.any_store.proofs.Lengths.{none_passes}
 use Rattle.mail_tree.specs.declared.fault.TreeFault.{TreeFault}
 use Rattle.mail_tree.specs.declared.fault.TreeFault.TheVariants.{Absent, HasChildren, Reserved, Selected, There}
 use Rattle.mail_tree.specs.Changes.{empty_directory, put_missing, with_parents, created_node, created_tree, tree_with_directory, delete_refusal, deleted_nodes, deleted_tree, same_name, due_create, due_create_dir, due_delete, due_rename, is_selected_below, moved_nodes, renamed_tree, with_subscribed}
-use Rattle.mail_tree.specs.Changing.{Placed, IsMailboxAt}
-use Rattle.mail_tree.specs.Mailboxes.{HasMailboxOf}
+use Rattle.mail_tree.specs.Changing.{Placed, IsInTree, IsMailboxAt, tree_after}
+use Rattle.mail_tree.specs.Mailboxes.{HasMailboxOf, stored_node, stored_tree}
 use Rattle.mail_tree.specs.Names.{inbox, prefixes}
 use Rattle.mail_tree.specs.Promises.{IsDeletable, IsMadeAbove, IsMadeAt, IsMadeFor, IsMovedOrNot}
-use Rattle.mail_tree.specs.Trees.{Directory, TreeNode, unknown_file, file_mailbox, folder, Nodes, Tree, HasTree, IsNodeOf, has_inside, is_blocked, is_free, is_message, list_of, is_plain, is_plain_directory, sees, seen_node}
+use Rattle.mail_tree.specs.Trees.{Directory, Meaning, TreeNode, unknown_file, file_mailbox, folder, Nodes, Tree, HasTree, IsNodeOf, has_inside, is_blocked, is_free, is_message, list_of, is_plain, is_plain_directory, sees, seen_node}
 use Rattle.mail_tree.proofs.Below.{one_below, child_below}
 use Rattle.mail_tree.proofs.ChangedFile.{path_apart}
 use Rattle.mail_tree.proofs.Emptied.{plain_refusal}
@@ -40,7 +42,7 @@ use Rattle.mail_tree.proofs.Made.{get_put_other}
 use Rattle.mail_tree.proofs.MovedKeys.{Apart, get_moved}
 use Rattle.mail_tree.proofs.NamesWritten.{path_beside}
 use Rattle.mail_tree.proofs.NewMailbox.{same_due}
-use Rattle.mail_tree.proofs.OneFile.{may_clear, no_home}
+use Rattle.mail_tree.proofs.OneFile.{may_change, may_clear, no_home}
 use Rattle.mail_tree.proofs.Sighted.{all_same, sees_front}
 
 -- ---- On another image
@@ -276,6 +278,31 @@ module _ (formats : Formats) (reads : (driver : Driver) → IsReading driver for
   -- where the subscribed names change
   pub through_listed : (names : List (List ℕ)) → Sees (IsBeside (list_of root)) a b → HasTree formats root (seen b) (with_subscribed tree names) → IsMailboxAt formats root view (seen b) (with_subscribed tree names) m
   through_listed names sees has = through_node (sees.each (child root m.name) (path_beside root m.name shown.is_path)) (with_subscribed tree names) has refl
+
+  -- where the mailbox of another name changes, which is a file
+  module _ (changed : Placed) (change : Change) (apart : m.name ≢ changed.name) (file_driver : is_directory_driver changed.driver ≡ false) (in_tree : IsInTree tree changed) where
+    changed_file : IsFileSeen tree changed.name
+    changed_file = file_seen formats root (seen a) tree changed.name changed.driver at.tree_seen file_driver in_tree
+
+    not_within : (rest : List ℕ) → m.name ≡ child changed.name rest → ⊥
+    not_within rest whole = false≢true (sym (ap is_plain changed_file.node.is) ∙ sees_front tree.nodes m.name changed.name rest shown.seen whole)
+
+    change_kept : (q : List ℕ) → q ≢ changed.name → get (tree_after formats tree changed change).nodes q ≡ get tree.nodes q
+    change_kept q other = by_test (is_nothing changed.mailbox.words change) _
+      where
+        by_test : (test : Bool) (meaning : Meaning) → get (cond test tree (stored_tree tree changed.name changed.driver meaning)).nodes q ≡ get tree.nodes q
+        by_test true meaning = refl
+        by_test false meaning = get_put_other tree.nodes changed.name (stored_node changed.driver meaning (seen_node tree.nodes changed.name)) q other
+
+    pub through_change : SeesBut (MayChange changed.driver (child root changed.name)) IsNoPath a b → HasTree formats root (seen b) (tree_after formats tree changed change)
+        → IsMailboxAt formats root view (seen b) (tree_after formats tree changed change) m
+    through_change sees has =
+        through (MayChange changed.driver (child root changed.name)) IsNoPath (
+          (λ may. ⊎_elim (λ same. apart (one_below root m.name changed.name same)) (path_apart root changed.name m.name shown.is_path) (may_change changed.driver (child root changed.name) (child root m.name) file_driver may)),
+          (λ never. never),
+        )
+        sees (tree_after formats tree changed change) has
+        (seen_again tree (tree_after formats tree changed change) m.name changed.name shown.seen apart not_within (λ q other some. change_kept q other) some_node)
 
   -- where another name moves, and what is in it
   module _ (from to : List ℕ) (beside : is_at_or_inside from m.name ≡ false) (free : get tree.nodes to ≡ None) (apart : Apart from to) where
