@@ -1,5 +1,6 @@
 // A reader of units.
 ghost use Rattle.std.specs.Prelude.{◌≡◌, ◌↔◌, ◌++◌, List, ℕ, [], OnOk, IsTrue};
+ghost use Rattle.std.specs.List.{All};
 ghost use Rattle.unit_reader.specs.Units.{Adds, UnitsFirst};
 
 use std::alloc::{AllocError, Global};
@@ -13,6 +14,9 @@ pub trait UnitReader: Drop {
 
     /// The bytes behind the last of them: none exactly between two units.
     ghost unfinished: { List ℕ → List ℕ };
+
+    /// What its grammar promises of each unit.
+    ghost is_sound: { Self.Unit → Type 0 };
 
     /// The reader has taken this stream, no other bytes and no error.
     ghost has_taken: { Self → List ℕ → Type 0 };
@@ -29,7 +33,10 @@ pub trait UnitReader: Drop {
     fn take_piece(&mut self, piece: &[u8], units: &mut Vec<Self::Unit>) -> Result<(), AllocError>
         ensures taken { (stream : List ℕ) → has_taken self.old stream
             → OnOk result (has_taken self.new (stream ++ piece.now) × Adds units_of stream piece.now units.old.items units.new.items) }
-        ensures grows { (stream : List ℕ) → UnitsFirst units_of stream piece.now };
+        ensures grows { (stream : List ℕ) → UnitsFirst units_of stream piece.now }
+
+        // Whatever is answered, sound units alone are added.
+        ensures sound { All is_sound units.old.items → All is_sound units.new.items };
 
     /// Whether the stream ends between two units.
     fn is_between(&self) -> bool
