@@ -45,7 +45,8 @@ pub trait Answers<H: Host> {
         host: &mut H,
         unit: &<Self::Reader as UnitReader>::Unit,
     ) -> Result<Next, Stop>
-        requires { Now (H.history host.old) (λ w. (state : State) × stands self.old w.disk state) }
+        requires stands { Now (H.history host.old) (λ w. (state : State) × stands self.old w.disk state) }
+        requires sound { Self.Reader.is_sound unit.now }
         ensures next { IfOk result (λ next. next ≡ next_of (protocol.is_last unit.now)) }
         ensures instants { (state : State) → Now (H.history host.old) (λ w. stands self.old w.disk state)
             → Passed (Answering protocol state (unit.now ∷ [])) (H.history host.old) (H.history host.new) }

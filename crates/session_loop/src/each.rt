@@ -1,5 +1,6 @@
 // The units of a piece.
 ghost use Rattle.std.specs.Prelude.{◌≡◌, List, ℕ, IfOk, OnOk};
+ghost use Rattle.std.specs.List.{All};
 ghost use Rattle.file_model.specs.Histories.{Now, Passed};
 ghost use Rattle.file_model.specs.Arrived.{Arrived};
 ghost use Rattle.session_loop.specs.Machine.{answered, has_last};
@@ -16,7 +17,8 @@ pub fn answer_each<H: Host, S: Answers<H>>(
     host: &mut H,
     units: &[<S::Reader as UnitReader>::Unit],
 ) -> Result<Next, Stop>
-    requires { Now (H.history host.old) (λ w. (state : S.State) × S.stands session.old w.disk state) }
+    requires stands { Now (H.history host.old) (λ w. (state : S.State) × S.stands session.old w.disk state) }
+    requires sound { All S.Reader.is_sound units.now }
     ensures next { IfOk result (λ next. next ≡ next_of (has_last S.protocol.is_last units.now)) }
     ensures instants { (state : S.State) → Now (H.history host.old) (λ w. S.stands session.old w.disk state)
         → Passed (Answering S.protocol state (answered S.protocol.is_last units.now)) (H.history host.old) (H.history host.new) }
