@@ -15,6 +15,9 @@ impl UnitReader for Feed {
 
     ghost unfinished = { unfinished };
 
+    // A line may have any bytes.
+    ghost is_sound = { λ line. Unit {0} };
+
     ghost has_taken = { HasTaken };
 
     ghost none_at_first = { refl };

@@ -1,14 +1,18 @@
 -- What the raw units of a piece mean for its units.
 use Rattle.std.proofs.Common.{ℕ, false, List, [], ◌∷◌, ◌++◌, ◌≡◌, Result, Ok, Err, OnOk, OnErr, map, refl, sym, ◌∙◌, ap, subst, append_assoc}
 use Rattle.std.specs.Result.{is_err}
+use Rattle.std.specs.List.{All, slice_index_or}
 use Rattle.std.proofs.lemmas.List.{append-nil, map-append}
+use Rattle.std.proofs.lemmas.List.Elements.{All-append, All-map}
 use Rattle.raw_commands.specs.Streams.{raw_units_of}
 use Rattle.raw_commands.specs.Taken as raw
 use Rattle.raw_commands.specs.declared.command.RawUnit.{RawUnit}
 use Rattle.imap_grammar.specs.Units.{unit_of, units_of}
+use Rattle.imap_grammar.specs.Sound.{IsSound}
 use Rattle.imap_grammar.specs.Taken.{HasTaken, AddsSome, Adds, AddsFirst, UnitsFirst}
 use Rattle.imap_grammar.specs.declared.feed.Feed.{Feed}
 use Rattle.imap_grammar.specs.declared.unit.Unit as unit
+use Rattle.imap_grammar.proofs.Sound.{raw_sound}
 
 more_units : (stream piece : List ℕ) (more : List RawUnit) → raw_units_of (stream ++ piece) ≡ raw_units_of stream ++ more → units_of (stream ++ piece) ≡ units_of stream ++ map unit_of more
 more_units stream piece more are = ap (map unit_of) are ∙ map-append unit_of (raw_units_of stream) more
@@ -82,6 +86,11 @@ front_added raws rest old new reached = record {
 pub all_reached : (raws rest : List RawUnit) (old new : List unit.Unit) → Reached raws rest old new → rest ≡ [] → new ≡ old ++ map unit_of raws
 all_reached raws rest old new reached none =
     reached.added ∙ ap (λ r. old ++ map unit_of r) (sym (reached.parts ∙ ap (λ r. reached.front ++ r) none ∙ append-nil reached.front))
+
+-- what raw units mean is sound
+pub all_sound_still : (raws rest : List RawUnit) (old new : List unit.Unit) → Reached raws rest old new → All IsSound old → All IsSound new
+all_sound_still raws rest old new reached are =
+    subst (All IsSound) (sym reached.added) (All-append IsSound old (map unit_of reached.front) are (All-map IsSound unit_of reached.front (λ k d within. raw_sound (slice_index_or reached.front k d))))
 
 -- the end of a call
 pub goes_on_where : {E : Type 0} (P : Type 0) (result : Result (Unit {0}) E) (new : Feed) (stream : List ℕ) → OnOk result (HasTaken new stream × P)

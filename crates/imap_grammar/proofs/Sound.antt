@@ -91,7 +91,7 @@ meant_sound : (meaning : Meaning) → HasTag meaning → OnCommand meaning Comma
 meant_sound (good tag command) has keeps = (has, record { shallow = keeps.0; numbers = keeps.1; texts = keeps.2 })
 meant_sound (bad tag reason) has keeps = (has, (in_range reason).0, (in_range reason).1)
 
-raw_sound : (unit : RawUnit) → IsSound (unit_of unit)
+pub raw_sound : (unit : RawUnit) → IsSound (unit_of unit)
 raw_sound raw.Announce = tt
 raw_sound (raw.Whole command) = meant_sound (meaning_of command.text command.literals) (has_tag command.text command.literals) (meaning_good command.text command.literals)
 raw_sound (raw.TooLong text) = (has_first_tag text, omega arith, omega arith)

@@ -1,7 +1,9 @@
 // A stream that comes in pieces.
 ghost use Rattle.std.specs.Prelude.{◌≡◌, ◌↔◌, IfOk, flat_map, List, ℕ, [], ◌++◌, OnOk, OnErr, IsErr, IsTrue, map};
+ghost use Rattle.std.specs.List.{All};
 ghost use Rattle.raw_commands.specs.Streams.{unfinished};
 ghost use Rattle.imap_grammar.specs.Units.{unit_of, units_of};
+ghost use Rattle.imap_grammar.specs.Sound.{IsSound};
 ghost use Rattle.imap_grammar.specs.Taken.{HasTaken, Adds, AddsFirst, AddsSome, UnitsFirst, IsSpent};
 
 use crate::meaning::unit_of;
@@ -46,6 +48,9 @@ impl Feed {
         ensures spent { OnErr result (IsSpent self.new) }
         ensures stays_spent { IsSpent self.old → IsErr result × IsSpent self.new }
         ensures unchanged { IsSpent self.old → units.new.items ≡ units.old.items }
+
+        // Whatever is answered, each unit that was added is sound.
+        ensures sound { All IsSound units.old.items → All IsSound units.new.items }
     {
         if self.spent {
             return Err(AllocError);
@@ -68,6 +73,7 @@ impl Feed {
             → OnOk result (HasTaken self.new (stream ++ piece.now) × Adds stream piece.now units.old.items units.new.items) }
         ensures prefix { (stream : List ℕ) → HasTaken self.old stream
             → OnErr result (AddsFirst stream piece.now units.old.items units.new.items) }
+        ensures sound { All IsSound units.old.items → All IsSound units.new.items }
     {
         let mut raw_units = Vec::new(self.alloc);
         self.raw.take(piece, &mut raw_units)?;
@@ -83,6 +89,7 @@ fn add_units(
 ) -> Result<(), AllocError>
     ensures added { OnOk result (units.new.items ≡ units.old.items ++ map unit_of raw_units.items) }
     ensures prefix { OnErr result (AddsSome (map unit_of raw_units.items) units.old.items units.new.items) }
+    ensures sound { All IsSound units.old.items → All IsSound units.new.items }
 {
     for raw in raw_units {
         units.push(unit_of(alloc, raw)?)?;

@@ -1,5 +1,6 @@
 // The feed as a reader of units.
 ghost use Rattle.imap_grammar.specs.Reader.{none_at_first};
+ghost use Rattle.imap_grammar.specs.Sound.{IsSound};
 ghost use Rattle.imap_grammar.specs.Taken.{HasTaken};
 ghost use Rattle.imap_grammar.specs.Units.{units_of};
 ghost use Rattle.raw_commands.specs.Streams.{unfinished};
@@ -15,6 +16,8 @@ impl UnitReader for Feed {
     ghost units_of = { units_of };
 
     ghost unfinished = { unfinished };
+
+    ghost is_sound = { IsSound };
 
     ghost has_taken = { HasTaken };
 
