@@ -2,6 +2,7 @@
 ghost use Rattle.std.specs.Prelude.{◌≡◌, []};
 ghost use Rattle.any_store.specs.Choice.{formats_of, chosen};
 ghost use Rattle.file_model.specs.Histories.{Now};
+ghost use Rattle.imap_grammar.specs.Sound.{IsSoundCommand};
 ghost use Rattle.session_loop.specs.Outcome.{UnitCause};
 ghost use Rattle.imap_session.specs.Doing.{Does};
 ghost use Rattle.imap_session.specs.Protocol.{stop_in};
@@ -32,6 +33,7 @@ pub fn command<H: Host, S: AnyMailbox<H> + Drop>(
 ) -> Result<Reply, Refusal>
     requires empty { out.old ≡ [] }
     requires stands { Now (H.history host.old) (λ w. (state : State) × StandsFor (formats_of S.forms chosen) S.view session.old w.disk state) }
+    requires sound { IsSoundCommand command.now }
     ensures does { Does (formats_of S.forms chosen) (StandsFor (formats_of S.forms chosen) S.view session.old) (StandsFor (formats_of S.forms chosen) S.view session.new)
         (commanded (formats_of S.forms chosen) tag command.now) result out.new (H.history host.old) (H.history host.new) }
     ensures cause { UnitCause (H.faults host.old) (H.faults host.new) (stop_in result) }

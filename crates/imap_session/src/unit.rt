@@ -3,6 +3,7 @@ ghost use Rattle.std.specs.Prelude.{◌≡◌, List, ℕ, [], OnOk};
 ghost use Rattle.any_store.specs.Choice.{formats_of, chosen};
 ghost use Rattle.file_model.specs.Causes.{Faults};
 ghost use Rattle.file_model.specs.Histories.{Now};
+ghost use Rattle.imap_grammar.specs.Sound.{IsSound};
 ghost use Rattle.session_loop.specs.Outcome.{UnitCause, next_of};
 ghost use Rattle.imap_session.specs.Doing.{DoesUnit};
 ghost use Rattle.imap_session.specs.Laws.{of_grammar, kept};
@@ -83,6 +84,7 @@ fn answer_unit<H: Host, S: AnyMailbox<H> + Drop>(
 ) -> Result<(), Stop>
     requires empty { out.old ≡ [] }
     requires stands { Now (H.history host.old) (λ w. (state : State) × StandsFor (formats_of S.forms chosen) S.view session.old w.disk state) }
+    requires sound { IsSound unit.now }
     ensures does { DoesUnit (formats_of S.forms chosen) (StandsFor (formats_of S.forms chosen) S.view session.old) (StandsFor (formats_of S.forms chosen) S.view session.new)
         unit.now result out.new (H.history host.old) (H.history host.new) }
     ensures cause { UnitCause (H.faults host.old) (H.faults host.new) result }

@@ -3,6 +3,7 @@ use Rattle.any_store.specs.Choice.{formats_of, chosen}
 use Rattle.file_model.specs.Disk.{Disk}
 use Rattle.file_model.specs.Histories.{Now}
 use Rattle.file_model.proofs.Runs.{now_weaker}
+use Rattle.imap_grammar.specs.Sound.{IsSound}
 use Rattle.imap_grammar.specs.declared.unit.Unit.TheVariants as units
 use Rattle.imap_reply.specs.declared.reply.Reply.TheVariants as reply
 use Rattle.imap_session.specs.Doing.{Does, DoesUnit}
@@ -20,6 +21,9 @@ command-requires-clause-stands g c =
     let formats = formats_of g.S.Store.forms chosen in
     now_weaker (λ w. (state : State) × StandsFor formats g.S.Store.view c.args.session.now w.disk state) (λ w. (state : State) × StandsFor formats g.S.Store.view c.count.new.self w.disk state)
     (λ w is. (counted is.0, subst (λ s. StandsFor formats g.S.Store.view s w.disk (counted is.0)) (sym c.count.ensures) (counted_stands formats g.S.Store.view c.args.session.now w.disk is.0 is.1))) _ c.requires.stands
+
+pub command-requires-clause-sound : goal.command-requires-clause-sound
+command-requires-clause-sound g c = (subst IsSound c.in-Command.is c.requires.sound).1
 
 pub returns-in-Command-clause-does : goal.returns-in-Command-clause-does
 returns-in-Command-clause-does g c =

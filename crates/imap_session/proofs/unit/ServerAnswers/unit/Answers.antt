@@ -41,5 +41,5 @@ returns-clause-stands g c =
     let laws : AreFormats formats = record { choice = g.met.S.AnyMailbox.is_choice; reads = g.met.S.AnyMailbox.all_read } in
     let after = StandsFor formats g.S.Store.view c.answer_unit.new.session in
     let before = StandsFor formats g.S.Store.view c.args.self.now.session in
-    unit_stands formats before after c.args.unit.now c.say.new.self _ _ c.requires
+    unit_stands formats before after c.args.unit.now c.say.new.self _ _ c.requires.stands
     (ends_unit formats laws after before c.args.unit.now c.answer_unit.new.out c.say.new.self (Ok tt) _ _ _ c.in_ok-answer_unit.ensures.does c.in_ok-say.ensures.puts).done
