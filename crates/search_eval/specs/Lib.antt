@@ -1,0 +1,4 @@
+pub mod Keys
+pub mod Needs
+pub mod Texts
+pub mod Told
