@@ -4,7 +4,7 @@ ghost use Rattle.std.specs.Prelude.{◌≡◌, slice_range};
 use head_fields::Span;
 
 /// The bytes of a span, as far as they stand in the text.
-pub(crate) fn slice_of(text: &[u8], span: Span) -> &[u8]
+pub fn slice_of(text: &[u8], span: Span) -> &[u8]
     ensures { result.now ≡ slice_range text.now span.from span.to }
 {
     let from = span.from.min(text.len());

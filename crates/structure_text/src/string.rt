@@ -20,14 +20,15 @@ fn are_quotable(bytes: &[u8]) -> bool
 }
 
 /// Appends a number.
-pub(crate) fn put_number(out: &mut Vec<u8>, number: usize) -> Result<(), AllocError>
+pub fn put_number(out: &mut Vec<u8>, number: usize) -> Result<(), AllocError>
     ensures { OnOk result (out.new.items ≡ out.old.items ++ decimal number) }
 {
     let mut digits = Buffer::new();
     out.extend_from_slice(digits.format(number).as_bytes())
 }
 
-fn put_quoted(out: &mut Vec<u8>, bytes: &[u8]) -> Result<(), AllocError>
+/// Appends bytes in quotes, as they are.
+pub fn put_quoted(out: &mut Vec<u8>, bytes: &[u8]) -> Result<(), AllocError>
     ensures { OnOk result (out.new.items ≡ out.old.items ++ quoted_text bytes.now) }
 {
     out.push(b'"')?;
@@ -35,7 +36,8 @@ fn put_quoted(out: &mut Vec<u8>, bytes: &[u8]) -> Result<(), AllocError>
     out.extend_from_slice(b"\"")
 }
 
-fn put_literal(out: &mut Vec<u8>, bytes: &[u8]) -> Result<(), AllocError>
+/// Appends a literal: how many bytes it has, and the bytes.
+pub fn put_literal(out: &mut Vec<u8>, bytes: &[u8]) -> Result<(), AllocError>
     ensures { OnOk result (out.new.items ≡ out.old.items ++ literal_text bytes.now) }
 {
     out.push(b'{')?;
@@ -46,7 +48,7 @@ fn put_literal(out: &mut Vec<u8>, bytes: &[u8]) -> Result<(), AllocError>
 
 /// Appends a string: quoted where each of its bytes may stand in quotes, else a literal.
 #[tactic(auto, unfolding(crate::specs::Strings::string_text))]
-pub(crate) fn put_string(out: &mut Vec<u8>, bytes: &[u8]) -> Result<(), AllocError>
+pub fn put_string(out: &mut Vec<u8>, bytes: &[u8]) -> Result<(), AllocError>
     ensures { OnOk result (out.new.items ≡ out.old.items ++ string_text bytes.now) }
 {
     if are_quotable(bytes) {
