@@ -11,7 +11,8 @@ use Rattle.imap_arguments.specs.declared.item.Item.TheVariants as items
 use Rattle.body_sections.specs.PartNumbers.{parts_in, inner_parts_in, part_behind, part_of}
 use Rattle.body_sections.specs.Sections.{message_spans, head_span, body_span, partial_of, span}
 use Rattle.body_sections.specs.Labels.{item_label, literal_head, field_text}
-use Rattle.body_sections.specs.Values.{names_of, section_text}
+use Rattle.body_sections.specs.Values.{section_text}
+use Rattle.looked_message.specs.Messages.{names_of}
 use Rattle.body_sections.specs.Needs.{item_need}
 use Rattle.body_sections.specs.declared.needs.Need.TheVariants as needs
 use Rattle.body_sections.proofs.Held.{held_parts, held_message, held_leaf}

@@ -11,7 +11,7 @@ use Rattle.imap_arguments.specs.declared.section.SectionKind.{SectionKind}
 use Rattle.imap_arguments.specs.declared.section.SectionKind.TheVariants.{All, Header, Fields, FieldsNot, Text, Mime}
 use Rattle.imap_arguments.specs.declared.item.Item as item
 use Rattle.imap_arguments.specs.declared.item.Item.TheVariants as items
-use Rattle.body_sections.specs.Messages.{LookedAt, with_text}
+use Rattle.looked_message.specs.Messages.{LookedAt, with_text}
 use Rattle.body_sections.specs.Sections.{span, head_span, message_spans, body_span, section_bytes, partial_of}
 use Rattle.body_sections.specs.Labels.{item_label, literal_head}
 use Rattle.body_sections.specs.Values.{IsValue, section_text}

@@ -9,7 +9,7 @@ use Rattle.imap_arguments.specs.declared.section.Section.{Section}
 use Rattle.imap_arguments.specs.declared.section.SectionKind.{SectionKind}
 use Rattle.imap_arguments.specs.declared.item.Item.{Item}
 use Rattle.imap_arguments.specs.declared.item.Item.TheVariants as items
-use Rattle.body_sections.specs.Messages.{LookedAt}
+use Rattle.looked_message.specs.Messages.{LookedAt}
 use Rattle.body_sections.specs.Sections.{HasSpansAt, numbered_spans}
 use Rattle.body_sections.specs.Labels.{item_label}
 use Rattle.body_sections.specs.Values.{IsBodyOf, IsSectionOf, section_text, IsValue}

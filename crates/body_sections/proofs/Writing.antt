@@ -8,7 +8,7 @@ use Rattle.mail_fields.specs.Texts.{written_at}
 use Rattle.structure_text.specs.Appending.{Appends}
 use Rattle.imap_arguments.specs.declared.item.Item.{Item}
 use Rattle.imap_reply.specs.Texts.{behind_spaces, spaced, in_parentheses}
-use Rattle.body_sections.specs.Messages.{LookedAt}
+use Rattle.looked_message.specs.Messages.{LookedAt}
 use Rattle.body_sections.specs.Labels.{behind_dots}
 use Rattle.body_sections.specs.Items.{IsItem, AreItems, AreMoreItems, AreSpacedItems}
 

@@ -2,7 +2,7 @@
 use Rattle.std.specs.Prelude.{◌≡◌, ℕ, List, [], ◌∷◌, ◌++◌}
 use Rattle.imap_arguments.specs.declared.item.Item.{Item}
 use Rattle.imap_reply.specs.Texts.{behind_spaces, spaced}
-use Rattle.body_sections.specs.Messages.{LookedAt}
+use Rattle.looked_message.specs.Messages.{LookedAt}
 use Rattle.body_sections.specs.Labels.{item_label}
 use Rattle.body_sections.specs.Values.{IsValue}
 

@@ -1,4 +1,3 @@
-pub mod Messages
 pub mod PartNumbers
 pub mod FieldLines
 pub mod Sections

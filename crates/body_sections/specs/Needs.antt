@@ -5,7 +5,7 @@ use Rattle.imap_arguments.specs.declared.section.SectionKind.{SectionKind}
 use Rattle.imap_arguments.specs.declared.section.SectionKind.TheVariants.{All, Header, Fields, FieldsNot, Text, Mime}
 use Rattle.imap_arguments.specs.declared.item.Item as item
 use Rattle.imap_arguments.specs.declared.item.Item.TheVariants as items
-use Rattle.body_sections.specs.Messages.{LookedAt, with_text}
+use Rattle.looked_message.specs.Messages.{LookedAt, with_text}
 use Rattle.body_sections.specs.Labels.{literal_head}
 use Rattle.body_sections.specs.Items.{IsItem}
 use Rattle.body_sections.specs.declared.needs.Need.{Need}

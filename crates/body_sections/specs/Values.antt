@@ -1,8 +1,7 @@
 -- The values of FETCH items (RFC 3501, section 7.4.2).
-use Rattle.std.specs.Prelude.{◌≡◌, ℕ, Bool, true, false, List, [], ◌∷◌, ◌++◌, ◌/◌, if◌then◌else◌, Option, Some, None, codes, decimal}
+use Rattle.std.specs.Prelude.{◌≡◌, ℕ, Bool, true, false, List, [], ◌∷◌, ◌++◌, Option, Some, None, codes, decimal}
 use Rattle.mail_fields.specs.Stamps.{parts_of}
 use Rattle.mail_fields.specs.ImapDate.{imap_date_text}
-use Rattle.mail_types.specs.Flags.{has_bit}
 use Rattle.head_fields.specs.Header.{header_alone}
 use Rattle.head_fields.specs.declared.span.Span.{Span}
 use Rattle.mime_parts.specs.Parts.{IsStructure, body_of}
@@ -15,17 +14,12 @@ use Rattle.imap_arguments.specs.declared.section.SectionKind.{SectionKind}
 use Rattle.imap_arguments.specs.declared.item.Item.{Item}
 use Rattle.imap_arguments.specs.declared.item.Item.TheVariants as items
 use Rattle.imap_reply.specs.Texts.{in_parentheses, system_flags, text_if}
-use Rattle.body_sections.specs.Messages.{LookedAt}
+use Rattle.looked_message.specs.Messages.{LookedAt, keywords_of}
 use Rattle.body_sections.specs.Sections.{HasSpans, section_bytes, partial_of}
-
--- the keyword names whose numbers are set, as bits; the first name's is the lowest
-abbrev pub names_of : ℕ → List (List ℕ) → List (List ℕ)
-names_of numbers [] = []
-names_of numbers (name ∷ names) = if has_bit 1 numbers then name ∷ names_of (numbers / 2) names else names_of (numbers / 2) names
 
 -- the flags of a message: system flags, keywords by number, and last whether it is recent
 abbrev pub flag_names : LookedAt → List (List ℕ)
-flag_names m = system_flags m.info.flags ++ (names_of m.info.words m.words ++ text_if m.recent (codes "\\Recent"))
+flag_names m = system_flags m.info.flags ++ (keywords_of m ++ text_if m.recent (codes "\\Recent"))
 
 -- the structure of a text, with extension data or without
 pub record IsBodyOf (text : List ℕ) (extended : Bool) (value : List ℕ) : Type 0 where

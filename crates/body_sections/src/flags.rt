@@ -1,10 +1,10 @@
 // The flags of a message.
 ghost use Rattle.std.specs.Prelude.{◌≡◌, ◌++◌, drop, IfOk, OnOk};
 ghost use Rattle.imap_reply.specs.Texts.{behind_spaces, in_parentheses, system_flags, text_if};
-ghost use Rattle.body_sections.specs.Messages.{looked_at};
-ghost use Rattle.body_sections.specs.Values.{names_of, flag_names};
+ghost use Rattle.looked_message.specs.Messages.{looked_at, names_of};
+ghost use Rattle.body_sections.specs.Values.{flag_names};
 
-use crate::looked::Looked;
+use looked_message::Looked;
 use mail_fields::Keyword;
 use mail_types::Flags;
 use std::alloc::{AllocError, Global};

@@ -2,13 +2,13 @@
 ghost use Rattle.std.specs.Prelude.{◌≡◌, ◌++◌, ◌<◌, ◌^◌, length, IfOk, OnOk, IfSome};
 ghost use Rattle.mime_parts.specs.Parts.{IsStructure};
 ghost use Rattle.structure_text.specs.Appending.{Appends};
-ghost use Rattle.body_sections.specs.Messages.{looked_at};
+ghost use Rattle.looked_message.specs.Messages.{looked_at};
 ghost use Rattle.body_sections.specs.Items.{IsItem, IsOnlyItem, AreMoreItems, AreSpacedItems};
 
 use crate::label::put_label;
-use crate::looked::Looked;
 use crate::value::put_value;
 use imap_arguments::Item;
+use looked_message::Looked;
 use mime_parts::{Part, structure};
 use std::alloc::{AllocError, Global};
 

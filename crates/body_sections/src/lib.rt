@@ -10,7 +10,6 @@ mod flags;
 mod items;
 mod label;
 mod literal;
-mod looked;
 mod needs;
 mod numbers;
 mod section;
@@ -18,6 +17,5 @@ mod value;
 
 pub use items::{item, put_items};
 pub use label::part_head;
-pub use looked::Looked;
 pub use needs::{Need, needed};
 pub use section::spans;

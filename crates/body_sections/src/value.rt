@@ -8,14 +8,14 @@ ghost use Rattle.structure_text.specs.Strings.{quoted_text};
 ghost use Rattle.structure_text.specs.Envelopes.{IsEnvelope};
 ghost use Rattle.structure_text.specs.Bodies.{IsBody};
 ghost use Rattle.structure_text.specs.Appending.{Appends};
-ghost use Rattle.body_sections.specs.Messages.{looked_at};
+ghost use Rattle.looked_message.specs.Messages.{looked_at};
 ghost use Rattle.body_sections.specs.Values.{IsBodyOf, IsValue};
 
 use crate::flags::put_flags;
 use crate::literal::put_section;
-use crate::looked::Looked;
 use head_fields::{Span, body_start};
 use imap_arguments::Item;
+use looked_message::Looked;
 use mail_fields::{Stamp, put_imap_date};
 use mime_parts::{Part, structure};
 use std::alloc::{AllocError, Global};

@@ -2,9 +2,10 @@
 ghost use Rattle.std.specs.Prelude.{◌<◌, ◌^◌, length};
 
 use crate::messages::{items_of, looked, messages, number_of, words};
-use body_sections::{Looked, Need, item, needed, part_head, put_items};
+use body_sections::{Need, item, needed, part_head, put_items};
 use head_fields::body_start;
 use imap_arguments::{FetchItems, Item};
+use looked_message::Looked;
 use mail_fields::{Keyword, split_at_space};
 use std::alloc::Global;
 use std::test::Fail;

@@ -1,6 +1,6 @@
 //! Messages for the tables, and how a row of theirs is read.
-use body_sections::Looked;
 use imap_arguments::{FetchItems, fetch_items_at};
+use looked_message::Looked;
 use mail_fields::{Keyword, read_decimal, read_imap_date, split_at_space};
 use mail_types::Flags;
 use std::alloc::{AllocError, Global};
@@ -86,6 +86,7 @@ pub fn looked<'a>(
             words: number_of(bits)?,
             size: text.len().min(4294967295) as u32,
         },
+        modseq: 0,
         recent: letters.contains(&b'R'),
         words,
         text,

@@ -1,5 +1,5 @@
 use Rattle.std.proofs.Common.{◌∙◌, ◌++◌, ap, drop}
-use Rattle.body_sections.specs.Messages.{looked_at}
+use Rattle.looked_message.specs.Messages.{looked_at}
 use Rattle.body_sections.specs.Values.{flag_names}
 use Rattle.structure_text.proofs.Writing.{ok-then}
 use Rattle.body_sections.proofs.Writing.{ok-if, list-written}

@@ -1,6 +1,6 @@
 use Rattle.std.proofs.Common.{◌≡◌, ◌++◌, drop}
 use Rattle.imap_reply.specs.Texts.{behind_spaces}
-use Rattle.body_sections.specs.Values.{names_of}
+use Rattle.looked_message.specs.Messages.{names_of}
 use Rattle.body_sections.proofs.flags.put_names.Given as goal
 
 abbrev pub invariant-loop-name : goal.invariant-loop-name

@@ -1,5 +1,5 @@
 use Rattle.std.proofs.Common.{◌∙◌, ◌++◌, ap, sym}
-use Rattle.body_sections.specs.Messages.{looked_at}
+use Rattle.looked_message.specs.Messages.{looked_at}
 use Rattle.body_sections.proofs.Only.{item-only}
 use Rattle.body_sections.proofs.items.item.Goals as goal
 

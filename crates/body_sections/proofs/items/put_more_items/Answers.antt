@@ -1,6 +1,6 @@
 use Rattle.std.proofs.Common.{subst}
 use Rattle.structure_text.specs.Appending.{Appends}
-use Rattle.body_sections.specs.Messages.{looked_at}
+use Rattle.looked_message.specs.Messages.{looked_at}
 use Rattle.body_sections.specs.Items.{IsItem}
 use Rattle.body_sections.proofs.Writing.{items-begin, items-more}
 use Rattle.body_sections.proofs.items.put_more_items.Goals as goal

@@ -1,6 +1,6 @@
 use Rattle.std.proofs.Common.{take}
 use Rattle.structure_text.specs.Appending.{Appends}
-use Rattle.body_sections.specs.Messages.{looked_at}
+use Rattle.looked_message.specs.Messages.{looked_at}
 use Rattle.body_sections.specs.Items.{AreMoreItems}
 use Rattle.body_sections.proofs.items.put_more_items.Given as goal
 

@@ -1,7 +1,7 @@
 use Rattle.std.proofs.Common.{subst}
 use Rattle.std.proofs.lemmas.List.{take_rest}
 use Rattle.structure_text.specs.Appending.{Appends}
-use Rattle.body_sections.specs.Messages.{looked_at}
+use Rattle.looked_message.specs.Messages.{looked_at}
 use Rattle.body_sections.specs.Items.{IsItem, AreMoreItems}
 use Rattle.structure_text.proofs.Writing.{ok-then}
 use Rattle.body_sections.proofs.Writing.{items-written, no-items}
