@@ -53,7 +53,7 @@ asks_other formats view state image name (Some o) (Some s) is unnamed other =
     ap (λ n. if bytes_eq n name then Ok s else other) (sym is.name) ∙ ap (λ b. if b then Ok s else other) unnamed
 
 -- the mailbox of a name as it opens
-abbrev by_found : (refusal : TreeFault → Reply) → List ℕ → State → List ℕ → Option TreeFault → Option Found → Unless Selected
+abbrev pub by_found : (refusal : TreeFault → Reply) → List ℕ → State → List ℕ → Option TreeFault → Option Found → Unless Selected
 by_found refusal tag state name due found =
     unless_due refusal due >>= λ stands. or_refused (reply.Refused tag no.NotStore) found >>= λ found. Ok (opened true (fresh state) name found)
 

@@ -108,7 +108,7 @@ module _ {S : Type 0} (formats : Formats) (view : S → View) (session after : S
 
   module _ (leaves : State → State) (goes_on : (disk : Disk) (state : State) → StandsFor formats view session disk state → StandsFor formats view after disk (leaves state))
       (alike : (disk : Disk) (state : State) → Alike formats state disk → Alike formats (leaves state) disk) where
-    leads_to : (lead : State → Outcome) (line : Reply) (disk : Disk) (state : State) → lead state ≡ only (leaves state) line → StandsFor formats view session disk state → Leads formats view after lead [] line disk state
+    pub leads_to : (lead : State → Outcome) (line : Reply) (disk : Disk) (state : State) → lead state ≡ only (leaves state) line → StandsFor formats view session disk state → Leads formats view after lead [] line disk state
     leads_to lead line disk state is stands = record {
       stands = subst (λ o. StandsFor formats view after disk o.next) (sym is) (goes_on disk state stands);
       alike = subst (λ o. Alike formats state disk → Alike formats o.next disk) (sym is) (alike disk state);

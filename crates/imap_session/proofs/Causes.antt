@@ -1,8 +1,6 @@
 -- Calls that failed, one after the other.
-use Rattle.std.proofs.Common.{◌≡◌, ◌∙◌, refl, arith, Result, Ok, Err}
+use Rattle.std.proofs.Common.{◌∙◌, refl, arith, Ok}
 use Rattle.file_model.specs.Causes.{Faults}
-use Rattle.session_loop.specs.declared.answers.Stop.{Stop}
-use Rattle.session_loop.specs.declared.answers.Stop.TheVariants.{SayFault, FileFault, Memory}
 use Rattle.session_loop.specs.Outcome.{NoneFailed, UnitCause}
 
 pub none_failed : (a b c : Faults) → NoneFailed a b → NoneFailed b c → NoneFailed a c

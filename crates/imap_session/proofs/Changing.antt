@@ -1,5 +1,5 @@
 -- The exit of a command behind a change of the selected mailbox.
-use Rattle.std.proofs.Common.{ℕ, List, [], ◌∷◌, ◌++◌, ◌≡◌, refl, sym, ◌∙◌, ap, subst, Option, Some, None, Result, Ok, Err}
+use Rattle.std.proofs.Common.{ℕ, List, [], ◌∷◌, ◌++◌, ◌≡◌, sym, ◌∙◌, ap, subst, Some, Result, Ok, Err}
 use Rattle.file_model.specs.Disk.{Disk, seen}
 use Rattle.file_model.specs.Histories.{World, History, Now, Passed}
 use Rattle.file_model.specs.Arrived.{Arrived}
@@ -11,20 +11,20 @@ use Rattle.session_loop.specs.declared.answers.Stop.{Stop}
 use Rattle.store_trait.specs.declared.change.Change.{Change}
 use Rattle.store_trait.specs.Promises.{CanAsk, RanOnFiles}
 use Rattle.store_trait.specs.Views.{View}
-use Rattle.std.proofs.Common.{◌⊎◌, inr}
+use Rattle.std.proofs.Common.{inr}
 use Rattle.file_model.proofs.Runs.{now_weaker}
 use Rattle.imap_session.specs.declared.refusal.Refusal.{Refusal}
 use Rattle.imap_session.specs.declared.refusal.Refusal.TheVariants.{Ends}
 use Rattle.imap_session.specs.declared.session.Open.{Open}
 use Rattle.imap_session.specs.declared.session.Session.{Session}
 use Rattle.imap_session.specs.Committed.{IsHere, HasChanged, Commits}
-use Rattle.imap_session.specs.Doing.{Alike, Committing, HasCommitted, Does}
+use Rattle.imap_session.specs.Doing.{Committing, HasCommitted, Does}
 use Rattle.imap_session.specs.Endings.{ends_with}
 use Rattle.imap_session.specs.Lines.{Line}
 use Rattle.imap_session.specs.Putting.{PutsLines}
 use Rattle.imap_session.specs.Standing.{IsOpen, IsSelection, StandsFor}
 use Rattle.imap_session.specs.State.{Selected, State, Outcome, changed_selected, changed_state}
-use Rattle.imap_session.proofs.Doing.{Led, led_does, ends_in_files, untold_passed}
+use Rattle.imap_session.proofs.Doing.{Led, led_does, ends_in_files}
 use Rattle.imap_session.specs.Laws.{kept}
 use Rattle.imap_session.proofs.Selections.{Selects, selects}
 

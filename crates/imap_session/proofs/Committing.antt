@@ -1,33 +1,31 @@
 -- What the change of a mailbox of the tree promises is what a command's change asks for.
-use Rattle.std.proofs.Common.{ℕ, List, [], ◌∷◌, ◌++◌, ◌≡◌, ◌≤◌, ◌⊎◌, ⊎_elim, inl, inr, refl, sym, ◌∙◌, ap, subst, length, true, Result, Ok, Err, OnOk, arith}
+use Rattle.std.proofs.Common.{ℕ, List, [], ◌∷◌, ◌≡◌, ◌⊎◌, refl, sym, ◌∙◌, subst, Result, Ok, Err, arith}
 use Rattle.std.specs.Result.{IsErrOf}
 use Rattle.std.specs.List.{AllByRecursion}
 use Rattle.std.proofs.lemmas.List.{append_cancel_right}
-use Rattle.file_model.specs.Disk.{Disk, MayLeave, seen}
-use Rattle.file_model.specs.Images.{Image, is_directory}
+use Rattle.file_model.specs.Disk.{seen}
+use Rattle.file_model.specs.Images.{Image}
 use Rattle.file_model.specs.Kept.{Leaves}
 use Rattle.file_model.specs.Histories.{World, History, Now, Ran, Ended, Passed}
 use Rattle.file_model.specs.Arrived.{Arrived}
 use Rattle.file_model.proofs.Passes.{ran_arrived}
-use Rattle.file_model.proofs.Runs.{all_weaker, now_weaker}
+use Rattle.file_model.proofs.Runs.{all_weaker}
 use Rattle.any_store.specs.Choice.{Formats}
-use Rattle.mail_tree.specs.Agreement.{HasMixMailboxes, IsTreeAlike}
-use Rattle.mail_tree.specs.Changing.{Placed, IsMailboxAt, FollowsChange, CommitsMailbox, tree_after, placed_after}
-use Rattle.mail_tree.specs.Trees.{Tree}
+use Rattle.mail_tree.specs.Changing.{FollowsChange, CommitsMailbox}
 use Rattle.store_trait.specs.declared.change.Change.{Change}
 use Rattle.store_trait.specs.declared.faults.StoreFault.{StoreFault}
 use Rattle.store_trait.specs.declared.faults.StoreFault.TheVariants.{Failed, NoUid, TooMany, TooLarge, Broken, Memory as StoreMemory}
 use Rattle.store_trait.specs.Answers.{StoreCause}
 use Rattle.file_model.specs.Causes.{Faults, OnlyFiles}
 use Rattle.session_loop.specs.Outcome.{UnitCause}
-use Rattle.session_loop.specs.declared.answers.Stop.TheVariants.{FileFault, Memory}
+use Rattle.session_loop.specs.declared.answers.Stop.TheVariants.{Memory}
 use Rattle.imap_session.specs.Endings.{stop_of}
 use Rattle.store_trait.specs.OwnPaths.{MayChange, IsNoPath}
 use Rattle.store_trait.specs.Promises.{LeavesAlone, RanOnFiles}
 use Rattle.store_trait.specs.Touching.{SeesBut}
 use Rattle.store_trait.specs.Views.{View}
 use Rattle.session_loop.specs.declared.answers.Stop.{Stop}
-use Rattle.imap_session.specs.Committed.{IsHere, HasChanged, Commits}
+use Rattle.imap_session.specs.Committed.{IsHere, HasChanged}
 use Rattle.imap_session.specs.Doing.{Committing, Alike, Agrees}
 use Rattle.imap_session.specs.State.{Selected, State, changed_state}
 use Rattle.imap_session.proofs.Rooted.{root_stays}

@@ -1,32 +1,26 @@
 -- From what a command does to what a unit promises.
-use Rattle.std.proofs.Common.{ℕ, List, [], ◌∷◌, ◌++◌, ◌≡◌, ◌⊎◌, ⊎_elim, inl, inr, refl, sym, ◌∙◌, ap, subst, append_assoc, Result, Ok, Err, OnOk}
+use Rattle.std.proofs.Common.{ℕ, List, [], ◌∷◌, ◌++◌, ◌≡◌, ⊎_elim, inl, inr, refl, sym, ◌∙◌, ap, subst, Result, Ok, Err}
 use Rattle.std.proofs.lemmas.List.{append-nil}
 use Rattle.file_model.specs.Disk.{Disk, MayLeave}
-use Rattle.file_model.specs.Images.{Image}
 use Rattle.file_model.specs.Histories.{World, History, Now, Passed}
-use Rattle.file_model.specs.Arrived.{Arrived, Begins, IsSaying}
-use Rattle.file_model.proofs.Passes.{passed_none, passed_weaker, passed_then, arrived_none, arrived_weaker, arrived_then}
+use Rattle.file_model.specs.Arrived.{Arrived, Begins}
+use Rattle.file_model.proofs.Passes.{passed_none, passed_weaker, passed_then, arrived_none, arrived_then}
 use Rattle.file_model.proofs.Runs.{now_weaker}
 use Rattle.any_store.specs.Choice.{Formats}
-use Rattle.imap_grammar.specs.declared.unit.Unit as client
 use Rattle.imap_reply.specs.declared.reply.Reply.{Reply}
-use Rattle.imap_reply.specs.Replies.{reply_bytes}
-use Rattle.imap_reply.specs.Putting.{HasPut, Puts}
-use Rattle.session_loop.specs.Machine.{IsKept, replies}
-use Rattle.session_loop.specs.Saying.{AllSaid, FirstSaid}
-use Rattle.session_loop.specs.Instants.{Answering, HasAnswered}
+use Rattle.session_loop.specs.Machine.{IsKept}
+use Rattle.session_loop.specs.Saying.{AllSaid}
 use Rattle.session_loop.specs.declared.answers.Stop.{Stop}
-use Rattle.session_loop.proofs.Machine.{begins_append, begins_none}
-use Rattle.session_loop.proofs.Saying.{all_append, all_one, first_part, first_more, first_none}
+use Rattle.session_loop.proofs.Machine.{begins_append}
+use Rattle.session_loop.proofs.Saying.{first_more, first_none}
 use Rattle.imap_session.specs.declared.refusal.Refusal.{Refusal}
 use Rattle.imap_session.specs.declared.refusal.Refusal.TheVariants.{Line as Refused, Ends}
-use Rattle.imap_session.specs.Doing.{Alike, Agrees, Committing, HasCommitted, Replying, HasReplied, HasPutReply, IfAnswered, Does, DoesUnit}
+use Rattle.imap_session.specs.Doing.{Alike, Committing, HasCommitted, Replying, HasReplied, IfAnswered, Does}
 use Rattle.imap_session.specs.Endings.{ends_with}
 use Rattle.imap_session.specs.Lines.{Line, reply_line, SaysLine}
 use Rattle.imap_session.specs.Protocol.{protocol}
 use Rattle.imap_session.specs.Putting.{SayingLines, HasPutLines, PutsLines}
-use Rattle.imap_session.specs.State.{State, Outcome, outcome_lines, only}
-use Rattle.imap_session.specs.Step.{outcome_of}
+use Rattle.imap_session.specs.State.{State, Outcome, outcome_lines}
 use Rattle.imap_session.proofs.Putting.{put_from, put_all_from}
 
 -- a host that tells nothing
@@ -164,3 +158,22 @@ module _ (formats : Formats) where
     instants = λ state now. passed_weaker (Committing formats state (lead state).next) (Replying formats state (lead state)) (committing_instant state (lead state)) old new (runs state now);
     done = λ state now. tt;
   }
+
+-- ---- A command that leads to the same
+
+answered_as : (result : Result Reply Refusal) (P Q : Reply → Type 0) → ((last : Reply) → P last → Q last) → IfAnswered result P → IfAnswered result Q
+answered_as (Ok last) P Q turn is = turn last is
+answered_as (Err (Refused line)) P Q turn is = turn line is
+answered_as (Err (Ends stop)) P Q turn is = tt
+
+pub does_as : (formats : Formats) (before after : Disk → State → Type 0) (lead other : State → Outcome) (result : Result Reply Refusal) (waits : List ℕ) (old new : History)
+    → ((disk : Disk) (state : State) → before disk state → lead state ≡ other state) → Does formats before after lead result waits old new → Does formats before after other result waits old new
+does_as formats before after lead other result waits [] new same does = record {
+  instants = λ state now. untold_passed (Replying formats state (lead state)) (Replying formats state (other state)) new (does.instants state now);
+  done = λ state now. answered_as result (λ last. Arrived (HasReplied formats after state (lead state) last waits) [] new) (λ last. Arrived (HasReplied formats after state (other state) last waits) [] new)
+      (λ last is. is) (does.done state now);
+}
+does_as formats before after lead other result waits (w ∷ past) new same does = record {
+  instants = λ state now. subst (λ o. Passed (Replying formats state o) (w ∷ past) new) (same w.disk state now) (does.instants state now);
+  done = λ state now. subst (λ o. IfAnswered result (λ last. Arrived (HasReplied formats after state o last waits) (w ∷ past) new)) (same w.disk state now) (does.done state now);
+}

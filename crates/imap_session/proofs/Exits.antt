@@ -1,8 +1,8 @@
 -- The exits of a command that changes no file, by what it says on any disk where the session stands.
-use Rattle.std.proofs.Common.{ℕ, List, [], ◌∷◌, ◌≡◌, ◌∙◌, refl, sym, ap, subst, not, Bool, true, false, Result, Ok, Err, Option, Some, None, is_some}
+use Rattle.std.proofs.Common.{ℕ, List, [], ◌≡◌, ◌∙◌, refl, sym, ap, subst, not, Bool, true, false, Result, Ok, Err, Option, Some, None, is_some}
 use Rattle.std.specs.Result.{IsErrAnd}
 use Rattle.file_model.specs.Disk.{Disk, seen}
-use Rattle.file_model.specs.Histories.{World, History, Now}
+use Rattle.file_model.specs.Histories.{World, History}
 use Rattle.file_model.proofs.Passes.{passed_none, arrived_none}
 use Rattle.file_model.proofs.Runs.{now_weaker}
 use Rattle.std.proofs.lemmas.List.{append-nil}
@@ -24,10 +24,10 @@ use Rattle.imap_session.specs.Lines.{Line, SaysLine}
 use Rattle.imap_session.specs.Putting.{PutsLines}
 use Rattle.imap_session.specs.Refusals.{the_selected}
 use Rattle.imap_session.specs.Standing.{IsSelection, StandsFor}
-use Rattle.imap_session.specs.State.{Selected, State, Outcome, Unless, ◌>>=◌, or_leaves, done, only}
+use Rattle.imap_session.specs.State.{Selected, State, Outcome, ◌>>=◌, or_leaves, done, only}
 use Rattle.imap_session.proofs.Doing.{led_does, quiet_led}
 use Rattle.imap_session.specs.Laws.{kept}
-use Rattle.imap_session.proofs.Selections.{is_selected, none_selected}
+use Rattle.imap_session.proofs.Selections.{is_selected}
 
 -- What a command leads to on a disk where the session stands for a state, and that the session stands for the next state afterwards.
 pub record Leads {S : Type 0} (formats : Formats) (view : S → View) (after : Session S) (lead : State → Outcome) (lines : List Line) (last : Reply) (disk : Disk) (state : State) : Type 0 where
@@ -131,3 +131,8 @@ module _ {S : Type 0} (formats : Formats) (view : S → View) (session : Session
 pub ended_so : (result : Result Reply Refusal) (stop : Stop) → IsErrAnd result (λ e. e ≡ Ends stop) → result ≡ Err (Ends stop)
 ended_so (Ok last) stop is = absurd is
 ended_so (Err e) stop is = ap Err is
+
+-- the refusal goes on as it is
+pub refused_so : (result : Result Reply Refusal) (refusal : Refusal) → IsErrAnd result (λ e. e ≡ refusal) → result ≡ Err refusal
+refused_so (Ok last) refusal is = absurd is
+refused_so (Err e) refusal is = ap Err is

@@ -1,3 +1,5 @@
+pub mod AddedHere
+pub mod Additions
 pub mod Askings
 pub mod ByName
 pub mod Causes
@@ -6,6 +8,8 @@ pub mod Closing
 pub mod Committing
 pub mod Counting
 pub mod Doing
+pub mod Dues
+pub mod Elsewhere
 pub mod Exits
 pub mod Expunging
 pub mod FetchSaid
@@ -28,5 +32,6 @@ pub mod Storing
 pub mod TreeChanges
 pub mod TreeLeads
 pub mod TreeStays
+pub mod Undue
 pub mod Units
 pub mod Unseen

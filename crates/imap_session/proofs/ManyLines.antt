@@ -1,13 +1,11 @@
 -- Lines that a loop puts, one after the other.
-use Rattle.std.proofs.Common.{ℕ, suc, List, [], ◌∷◌, ◌++◌, ◌+◌, ◌<◌, ◌≡◌, refl, sym, ◌∙◌, ap, subst, append_assoc, drop, length, arith, Result, Ok, Err, IsErr}
+use Rattle.std.proofs.Common.{ℕ, List, [], ◌++◌, ◌≡◌, sym, ◌∙◌, ap, subst, append_assoc, Result, Ok, Err, IsErr}
 use Rattle.std.proofs.lemmas.List.{append-nil}
-use Rattle.std.proofs.Math.Seq.{drop-cons}
-use Rattle.std.proofs.Math.ListN.{get_or}
 use Rattle.file_model.specs.Histories.{History}
 use Rattle.session_loop.specs.declared.answers.Stop.{Stop}
 use Rattle.imap_session.specs.Lines.{Line}
 use Rattle.imap_session.specs.Putting.{PutsLines}
-use Rattle.imap_session.proofs.Putting.{puts_none, puts_then, puts_no_more}
+use Rattle.imap_session.proofs.Putting.{puts_then, puts_no_more}
 
 -- of these lines all but the rest are put
 pub record PutsBut (all rest : List Line) (was is : List ℕ) (old new : History) : Type 0 where

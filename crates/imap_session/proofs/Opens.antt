@@ -1,10 +1,10 @@
 -- A mailbox that is opened by its name is what the name sees.
-use Rattle.std.proofs.Common.{ℕ, Bool, List, [], ◌∷◌, ◌≡◌, refl, sym, ◌∙◌, ap, subst, map, Some, None, Ok}
-use Rattle.file_model.specs.Disk.{Disk, seen}
+use Rattle.std.proofs.Common.{ℕ, Bool, List, [], ◌∷◌, ◌≡◌, refl, sym, ◌∙◌, ap, subst, map, None, Ok}
+use Rattle.file_model.specs.Disk.{seen}
 use Rattle.file_model.specs.Histories.{World, History, Now}
 use Rattle.any_store.specs.Choice.{Formats}
 use Rattle.mail_tree.specs.Changes.{due_open}
-use Rattle.mail_tree.specs.Changing.{OpensFound, opened_as}
+use Rattle.mail_tree.specs.Changing.{OpensFound}
 use Rattle.mail_tree.specs.Promises.{AnswersBy}
 use Rattle.mail_tree.specs.Trees.{Tree, HasTree}
 use Rattle.store_trait.specs.declared.store.Info.{Info}
@@ -13,7 +13,7 @@ use Rattle.store_trait.specs.Views.{View, summary_of}
 use Rattle.imap_session.specs.declared.session.Open.{Open}
 use Rattle.imap_session.specs.declared.session.Session.{Session}
 use Rattle.imap_session.specs.Opening.{OpensSelected}
-use Rattle.imap_session.specs.Select.{opened, unseen_before}
+use Rattle.imap_session.specs.Select.{unseen_before}
 use Rattle.imap_session.specs.Standing.{StandsFor}
 use Rattle.imap_session.specs.State.{State, fresh}
 

@@ -1,5 +1,5 @@
 -- The messages that a store tells, one by one.
-use Rattle.std.proofs.Common.{ℕ, zero, suc, List, [], ◌∷◌, ◌++◌, ◌+◌, ◌≤◌, ◌<◌, ◌≡◌, Some, refl, sym, ◌∙◌, ap, subst, take, drop, length, slice_get, arith, if◌then◌else◌, Bool, true, false}
+use Rattle.std.proofs.Common.{ℕ, zero, suc, List, [], ◌∷◌, ◌++◌, ◌+◌, ◌≤◌, ◌≡◌, Some, sym, ◌∙◌, ap, subst, take, drop, length, slice_get, arith, if◌then◌else◌, Bool, true, false}
 use Rattle.store_trait.specs.declared.store.Info.{Info}
 use Rattle.mail_types.specs.Lists.{RiseBelow}
 use Rattle.mail_types.specs.declared.flags.Flags.{Flags}

@@ -5,13 +5,13 @@ use Rattle.file_model.specs.Histories.{World, History, Now, Passed}
 use Rattle.file_model.specs.Arrived.{Arrived, Begins, IsSaying}
 use Rattle.file_model.proofs.Passes.{passed_then, passed_none, passed_weaker, arrived_none, arrived_then}
 use Rattle.imap_reply.specs.declared.reply.Reply.{Reply}
-use Rattle.imap_reply.specs.Replies.{reply_bytes, replies_bytes}
+use Rattle.imap_reply.specs.Replies.{reply_bytes}
 use Rattle.imap_reply.specs.Putting.{HasPut, Puts}
 use Rattle.session_loop.specs.Saying.{AllSaid}
 use Rattle.session_loop.specs.declared.answers.Stop.{Stop}
 use Rattle.session_loop.proofs.Machine.{begins_append}
-use Rattle.session_loop.proofs.Saying.{all_append, first_part, first_more, first_none}
-use Rattle.imap_session.specs.Lines.{Line, reply_line, reply_lines, SaysLine}
+use Rattle.session_loop.proofs.Saying.{all_append, first_part, first_more}
+use Rattle.imap_session.specs.Lines.{Line, reply_line, SaysLine}
 use Rattle.imap_session.specs.Putting.{SayingLines, HasPutLines, PutsLines}
 
 pub begins_behind_part : (part said was bytes : List ℕ) → Begins said (was ++ bytes) → Begins (part ++ said) ((part ++ was) ++ bytes)

@@ -1,5 +1,5 @@
 -- Lines of a list, put one by one.
-use Rattle.std.proofs.Common.{ℕ, List, [], ◌∷◌, ◌++◌, ◌+◌, ◌≡◌, refl, sym, ◌∙◌, ap, subst, map, take, drop, slice_get, Some, Result, Ok, Err}
+use Rattle.std.proofs.Common.{ℕ, List, [], ◌∷◌, ◌++◌, ◌+◌, ◌≡◌, refl, sym, ◌∙◌, ap, subst, take, drop, slice_get, Some, Result, Ok, Err}
 use Rattle.file_model.specs.Causes.{Faults, SayCause}
 use Rattle.file_model.specs.Histories.{History}
 use Rattle.imap_reply.specs.declared.reply.Reply.{Reply}
@@ -8,7 +8,7 @@ use Rattle.imap_reply.specs.Replies.{reply_bytes}
 use Rattle.session_loop.specs.declared.answers.Stop.{Stop}
 use Rattle.std.specs.Result.{IsErrAnd}
 use Rattle.session_loop.specs.Outcome.{NoneFailed}
-use Rattle.imap_session.specs.Lines.{Line, reply_line, reply_lines}
+use Rattle.imap_session.specs.Lines.{reply_line, reply_lines}
 use Rattle.imap_session.specs.Putting.{PutsLines}
 use Rattle.imap_session.proofs.Places.{one_more, split_at}
 use Rattle.imap_session.proofs.Putting.{puts_reply, puts_then, puts_no_more}

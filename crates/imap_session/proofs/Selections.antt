@@ -1,11 +1,10 @@
 -- What the tests that commands begin with lead to.
-use Rattle.std.proofs.Common.{ℕ, List, ◌≡◌, Option, Some, None, is_some, not, Bool, true, false, Result, Ok, Err, refl, sym, ◌∙◌, ap, subst}
+use Rattle.std.proofs.Common.{ℕ, List, ◌≡◌, Option, Some, None, is_some, not, Bool, true, false, refl, sym, ◌∙◌, ap, subst}
 use Rattle.file_model.specs.Disk.{Disk, seen}
 use Rattle.file_model.specs.Images.{Image}
 use Rattle.store_trait.specs.Views.{View}
 use Rattle.any_store.specs.Choice.{Formats}
 use Rattle.mail_tree.specs.Changing.{IsInTree, IsStoreOf}
-use Rattle.imap_reply.specs.declared.reply.Reply.{Reply}
 use Rattle.imap_reply.specs.declared.reply.Reply.TheVariants as reply
 use Rattle.imap_session.specs.declared.session.Open.{Open}
 use Rattle.imap_session.specs.declared.session.Session.{Session}

@@ -9,7 +9,7 @@ use Rattle.imap_syntax.specs.declared.command.Mode.{Mode}
 use Rattle.mail_types.specs.declared.driver.Keeps.{Keeps}
 use Rattle.mail_types.specs.declared.message.FlagChange.{FlagChange}
 use Rattle.mail_types.specs.declared.driver.Driver.{Driver}
-use Rattle.mail_types.specs.declared.driver.Driver.TheVariants.{Unix, Mmdf, Mbx, Mtx, Tenex, Mh, Mix}
+use Rattle.mail_types.specs.declared.driver.Driver.TheVariants.{Unix}
 use Rattle.mail_types.specs.Drivers.{keeps_of}
 use Rattle.mail_types.specs.Lists.{RiseBelow, places_of}
 use Rattle.store_trait.specs.declared.store.Info.{Info}

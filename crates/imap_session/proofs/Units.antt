@@ -1,11 +1,10 @@
 -- Units: a command is counted, done, and its reply put and said.
-use Rattle.std.proofs.Common.{ℕ, List, [], ◌∷◌, ◌++◌, ◌≡◌, ◌⊎◌, ⊎_elim, inl, inr, refl, sym, ◌∙◌, ap, subst, append_assoc, Result, Ok, Err, OnOk, Option, None}
+use Rattle.std.proofs.Common.{ℕ, List, [], ◌∷◌, ◌++◌, ◌≡◌, ⊎_elim, inr, refl, sym, ◌∙◌, ap, subst, append_assoc, Result, Ok, Err, OnOk, None}
 use Rattle.std.proofs.lemmas.List.{append-nil}
 use Rattle.std.specs.FinMap.{empty}
-use Rattle.file_model.specs.Disk.{Disk, MayLeave, seen}
-use Rattle.file_model.specs.Images.{Image}
+use Rattle.file_model.specs.Disk.{Disk, MayLeave}
 use Rattle.file_model.specs.Histories.{World, History, Now, Passed}
-use Rattle.file_model.specs.Arrived.{Arrived, Begins, IsSaying}
+use Rattle.file_model.specs.Arrived.{Arrived, IsSaying}
 use Rattle.file_model.proofs.Passes.{passed_weaker, passed_then, passed_none, arrived_weaker, arrived_then, arrived_none, arrived_now}
 use Rattle.file_model.proofs.Runs.{now_weaker}
 use Rattle.imap_grammar.specs.declared.unit.Unit as client
@@ -15,7 +14,7 @@ use Rattle.imap_reply.specs.Putting.{HasPut, Puts}
 use Rattle.store_trait.specs.Views.{View}
 use Rattle.any_store.specs.Choice.{Formats}
 use Rattle.mail_tree.proofs.Nodes.{AreFormats}
-use Rattle.session_loop.specs.Machine.{IsKept, replies}
+use Rattle.session_loop.specs.Machine.{replies}
 use Rattle.session_loop.specs.Instants.{Answering, HasAnswered}
 use Rattle.session_loop.specs.Saying.{AllSaid, FirstSaid}
 use Rattle.session_loop.specs.declared.answers.Stop.{Stop}
@@ -25,7 +24,7 @@ use Rattle.imap_session.specs.declared.refusal.Refusal.TheVariants.{Line as Refu
 use Rattle.imap_session.specs.declared.session.Session.{Session}
 use Rattle.imap_session.specs.Doing.{Alike, Replying, HasReplied, HasPutReply, IfAnswered, Does, DoesUnit}
 use Rattle.imap_session.specs.Laws.{kept}
-use Rattle.imap_session.specs.Lines.{Line, reply_line, SaysLine}
+use Rattle.imap_session.specs.Lines.{reply_line, SaysLine}
 use Rattle.imap_session.specs.Protocol.{protocol}
 use Rattle.imap_session.specs.Standing.{StandsFor}
 use Rattle.imap_session.specs.State.{State, Outcome, outcome_lines, only, next_fresh, counted}

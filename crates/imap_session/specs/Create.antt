@@ -1,13 +1,11 @@
 -- CREATE (RFC 3501, section 6.3.3): a mailbox of the driver that the name asks for, or with a slash at its end a directory.
-use Rattle.std.specs.Prelude.{ℕ, Bool, true, false, List, [], if◌then◌else◌, Option, Ok}
+use Rattle.std.specs.Prelude.{ℕ, List, [], if◌then◌else◌, Option, Ok}
 use Rattle.mail_tree.specs.declared.fault.TreeFault.{TreeFault}
 use Rattle.mail_tree.specs.Names.{TargetValue}
 use Rattle.mail_tree.specs.Trees.{Tree}
 use Rattle.mail_tree.specs.Changes.{due_create, created_tree, due_create_dir, tree_with_directory}
-use Rattle.imap_reply.specs.declared.reply.Reply.{Reply}
-use Rattle.imap_reply.specs.declared.reply.Reply.TheVariants as reply
 use Rattle.imap_reply.specs.declared.text.Words.TheVariants as words
-use Rattle.imap_session.specs.State.{State, Outcome, Unless, ◌>>=◌, fresh, with_tree, done, or_leaves}
+use Rattle.imap_session.specs.State.{State, Outcome, ◌>>=◌, fresh, with_tree, done, or_leaves}
 use Rattle.imap_session.specs.Refusals.{the_target, unless_tree}
 
 abbrev pub due_new : Tree → TargetValue → Option TreeFault

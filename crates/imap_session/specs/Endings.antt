@@ -1,5 +1,5 @@
 -- How a command ends.
-use Rattle.std.specs.Prelude.{◌≡◌, ℕ, List, Bool, false, Option, Some, None, Result, Ok, Err}
+use Rattle.std.specs.Prelude.{ℕ, List, Bool, false, Option, Some, None, Result, Ok, Err}
 use Rattle.imap_reply.specs.declared.reply.Reply.{Reply}
 use Rattle.session_loop.specs.declared.answers.Stop.{Stop}
 use Rattle.session_loop.specs.declared.answers.Stop.TheVariants.{FileFault, Memory}

@@ -6,7 +6,7 @@ use Rattle.store_trait.specs.declared.change.Change.TheVariants.{Expunge}
 use Rattle.imap_reply.specs.declared.reply.Reply.{Reply}
 use Rattle.imap_reply.specs.declared.reply.Reply.TheVariants as reply
 use Rattle.imap_reply.specs.declared.text.Words.TheVariants as words
-use Rattle.imap_session.specs.State.{Selected, State, infos_of, Outcome, Unless, ◌>>=◌, unselected, changed_state, done, or_leaves}
+use Rattle.imap_session.specs.State.{Selected, State, infos_of, Outcome, ◌>>=◌, unselected, changed_state, done, or_leaves}
 use Rattle.imap_session.specs.Refusals.{the_selected, writable}
 use Rattle.any_store.specs.Choice.{Formats}
 use Rattle.imap_session.specs.Lines.{reply_lines}

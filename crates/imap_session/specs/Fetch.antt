@@ -1,20 +1,14 @@
 -- FETCH (RFC 3501, section 6.4.5).
-use Rattle.std.specs.Prelude.{ℕ, Bool, true, false, List, [], ◌∷◌, ◌++◌, ◌&&◌, ◌||◌, not, nat_eq, if◌then◌else◌, slice_get, Option, Some, None, Ok, bytes_eq}
-use Rattle.std.specs.List.{list_any, filter}
-use Rattle.mail_types.specs.declared.message.FlagChange.{FlagChange}
-use Rattle.store_trait.specs.declared.store.Info.{Info}
-use Rattle.store_trait.specs.declared.change.Change.TheVariants.{SetFlags}
+use Rattle.std.specs.Prelude.{ℕ, Bool, true, false, List, [], ◌∷◌, ◌&&◌, not, nat_eq, if◌then◌else◌, Option, Some, None, Ok, bytes_eq}
+use Rattle.std.specs.List.{list_any}
 use Rattle.imap_arguments.specs.declared.item.Item.{Item}
 use Rattle.imap_arguments.specs.declared.item.Item.TheVariants as items
-use Rattle.imap_arguments.specs.declared.section.Section.{Section}
 use Rattle.imap_arguments.specs.declared.section.SectionKind.{SectionKind}
 use Rattle.imap_arguments.specs.declared.section.SectionKind.TheVariants as kinds
 use Rattle.imap_arguments.specs.declared.set.Set.{Set}
-use Rattle.imap_reply.specs.declared.reply.Reply.{Reply}
-use Rattle.imap_reply.specs.declared.reply.Reply.TheVariants as reply
 use Rattle.imap_reply.specs.declared.text.Words.{Words}
 use Rattle.imap_reply.specs.declared.text.Words.TheVariants as words
-use Rattle.imap_session.specs.State.{Selected, State, infos_of, Outcome, Unless, ◌>>=◌, done, or_leaves}
+use Rattle.imap_session.specs.State.{State, infos_of, Outcome, ◌>>=◌, done, or_leaves}
 use Rattle.imap_session.specs.Refusals.{the_selected}
 use Rattle.imap_session.specs.Sets.{named_places, unless_past}
 use Rattle.imap_session.specs.Messages.{fetch_lines}

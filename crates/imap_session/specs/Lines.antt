@@ -1,5 +1,5 @@
 -- The lines that a session says. What FETCH says of a message is a relation: its items and the message looked at have these texts.
-use Rattle.std.specs.Prelude.{ℕ, List, [], ◌∷◌, ◌++◌, ◌≡◌, map}
+use Rattle.std.specs.Prelude.{ℕ, List, ◌≡◌, map}
 use Rattle.imap_arguments.specs.declared.item.Item.{Item}
 use Rattle.imap_reply.specs.declared.reply.Reply.{Reply}
 use Rattle.imap_reply.specs.declared.reply.Reply.TheVariants as reply

@@ -1,5 +1,5 @@
 -- The FETCH lines of messages of the selected mailbox (RFC 3501, section 7.4.2).
-use Rattle.std.specs.Prelude.{ℕ, Bool, List, [], ◌∷◌, ◌++◌, ◌+◌, nat_eq, slice_get, Option, Some, None}
+use Rattle.std.specs.Prelude.{ℕ, List, [], ◌∷◌, ◌++◌, ◌+◌, nat_eq, slice_get, Option, Some, None}
 use Rattle.std.specs.List.{list_any}
 use Rattle.imap_arguments.specs.declared.item.Item.{Item}
 use Rattle.mail_types.specs.declared.message.Record.{Record}

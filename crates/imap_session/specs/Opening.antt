@@ -1,5 +1,5 @@
 -- A mailbox that is opened by its name.
-use Rattle.std.specs.Prelude.{ℕ, Bool, List, ◌≡◌, Option, Some, None}
+use Rattle.std.specs.Prelude.{ℕ, Bool, List, ◌≡◌, Some, None}
 use Rattle.file_model.specs.Images.{Image}
 use Rattle.any_store.specs.Choice.{Formats}
 use Rattle.mail_tree.specs.Changes.{due_open}

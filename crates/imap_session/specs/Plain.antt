@@ -1,10 +1,9 @@
 -- Commands that ask nothing of a mailbox (RFC 3501, sections 6.1 and 6.2).
 use Rattle.std.specs.Prelude.{ℕ, List, [], ◌∷◌, Ok}
-use Rattle.imap_reply.specs.declared.reply.Reply.{Reply}
 use Rattle.imap_reply.specs.declared.reply.Reply.TheVariants as reply
 use Rattle.imap_reply.specs.declared.text.Words.TheVariants as words
 use Rattle.imap_session.specs.Lines.{reply_line}
-use Rattle.imap_session.specs.State.{State, Outcome, Unless, ◌>>=◌, only, done, or_leaves}
+use Rattle.imap_session.specs.State.{State, Outcome, ◌>>=◌, only, done, or_leaves}
 use Rattle.imap_session.specs.Refusals.{the_selected}
 
 abbrev pub capability : List ℕ → State → Outcome

@@ -1,10 +1,9 @@
 -- The session as a machine over the units of the client.
-use Rattle.std.specs.Prelude.{ℕ, List, Result, Ok, Err}
+use Rattle.std.specs.Prelude.{Result, Ok, Err}
 use Rattle.any_store.specs.Choice.{Formats}
 use Rattle.imap_grammar.specs.Units.{units_of}
 use Rattle.raw_commands.specs.Streams.{unfinished}
 use Rattle.imap_grammar.specs.declared.unit.Unit as client
-use Rattle.imap_reply.specs.declared.reply.Reply.{Reply}
 use Rattle.imap_reply.specs.declared.reply.Reply.TheVariants as reply
 use Rattle.mail_tree.specs.Agreement.{HasMixMailboxes, IsTreeAlike}
 use Rattle.session_loop.specs.Machine.{Protocol}
@@ -30,7 +29,7 @@ protocol formats = record {
 }
 
 -- a refused command goes on, as the loop sees it
-abbrev pub stop_in : Result Reply Refusal → Result (Unit {0}) Stop
-stop_in (Ok last) = Ok tt
+abbrev pub stop_in : {T : Type 0} → Result T Refusal → Result (Unit {0}) Stop
+stop_in (Ok value) = Ok tt
 stop_in (Err (Refused refusal)) = Ok tt
 stop_in (Err (Ends stop)) = Err stop

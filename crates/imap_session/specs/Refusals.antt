@@ -6,6 +6,11 @@ use Rattle.store_trait.specs.declared.faults.OpenFault.{OpenFault}
 use Rattle.store_trait.specs.declared.faults.OpenFault.TheVariants as open_fault
 use Rattle.store_trait.specs.declared.faults.StoreFault.{StoreFault}
 use Rattle.store_trait.specs.declared.faults.StoreFault.TheVariants as store_fault
+use Rattle.store_trait.specs.declared.change.Change.{Change}
+use Rattle.store_trait.specs.Changes.{due_refusal}
+use Rattle.any_store.specs.Choice.{Formats}
+use Rattle.mail_tree.specs.Changing.{Placed}
+use Rattle.mail_tree.specs.Mailboxes.{written_length}
 use Rattle.mail_tree.specs.declared.fault.TreeFault.{TreeFault}
 use Rattle.mail_tree.specs.declared.fault.TreeFault.TheVariants as tree_fault
 use Rattle.mail_tree.specs.Names.{TargetValue, read_name, read_target}
@@ -91,14 +96,28 @@ tree_refusal tag fault = reply.Refused tag (tree_text fault)
 abbrev pub unless_tree : List ℕ → Option TreeFault → Unless (Unit {0})
 unless_tree tag due = unless_due (tree_refusal tag) due
 
+-- the line of a command that a store refuses
+abbrev pub store_refusal : List ℕ → StoreFault → Reply
+store_refusal tag fault = reply.Refused tag (store_text fault)
+
 abbrev pub unless_store : List ℕ → Option StoreFault → Unless (Unit {0})
-unless_store tag due = unless_due (λ fault. reply.Refused tag (store_text fault)) due
+unless_store tag due = unless_due (store_refusal tag) due
+
+-- the refusal that is due of a change of a mailbox
+abbrev pub due_of : Formats → Placed → Change → Option StoreFault
+due_of formats m change = due_refusal (written_length formats m.driver) m.driver m.contents m.mailbox change
 
 -- The tree refuses a command; a failed call and want of memory end the session.
 abbrev pub refused_by : List ℕ → TreeFault → Refusal
 refused_by tag tree_fault.Failed = Ends stop.FileFault
 refused_by tag tree_fault.Memory = Ends stop.Memory
 refused_by tag fault = Refused (tree_refusal tag fault)
+
+-- The store refuses a change; a failed call and want of memory end the session.
+abbrev pub refused_by_store : List ℕ → StoreFault → Refusal
+refused_by_store tag store_fault.Failed = Ends stop.FileFault
+refused_by_store tag store_fault.Memory = Ends stop.Memory
+refused_by_store tag fault = Refused (store_refusal tag fault)
 
 -- the last line of a change of the tree, unless the tree refuses it
 abbrev pub answered_by : {T : Type 0} → List ℕ → Words → Result T TreeFault → Result Reply Refusal

@@ -1,10 +1,8 @@
 -- RENAME (RFC 3501, section 6.3.5).
 use Rattle.std.specs.Prelude.{ℕ, List, [], Ok}
 use Rattle.mail_tree.specs.Changes.{due_rename, renamed_tree}
-use Rattle.imap_reply.specs.declared.reply.Reply.{Reply}
-use Rattle.imap_reply.specs.declared.reply.Reply.TheVariants as reply
 use Rattle.imap_reply.specs.declared.text.Words.TheVariants as words
-use Rattle.imap_session.specs.State.{State, Outcome, Unless, ◌>>=◌, with_tree, selected_name, done, or_leaves}
+use Rattle.imap_session.specs.State.{State, Outcome, ◌>>=◌, with_tree, selected_name, done, or_leaves}
 use Rattle.imap_session.specs.Refusals.{the_name, unless_tree}
 
 -- both names are read before the tree is asked

@@ -1,5 +1,5 @@
 -- SELECT and EXAMINE (RFC 3501, sections 6.3.1 and 6.3.2).
-use Rattle.std.specs.Prelude.{ℕ, Bool, true, false, List, [], ◌∷◌, ◌++◌, ◌+◌, ◌==◌, nat_lt, min, not, if◌then◌else◌, length, map, Option, Some, None, Ok}
+use Rattle.std.specs.Prelude.{ℕ, Bool, true, false, List, [], ◌∷◌, ◌++◌, ◌+◌, nat_lt, min, not, if◌then◌else◌, length, map, Ok}
 use Rattle.std.specs.List.{filter}
 use Rattle.mail_types.specs.declared.driver.Keeps.{Keeps}
 use Rattle.mail_types.specs.declared.mailbox.Mailbox.{Mailbox}
@@ -9,12 +9,10 @@ use Rattle.store_trait.specs.Views.{summary_of}
 use Rattle.mail_types.specs.Drivers.{keeps_of, every_flag}
 use Rattle.mail_types.specs.Opening.{opened_mailbox}
 use Rattle.store_trait.specs.declared.change.Change.TheVariants.{SetFlags}
-use Rattle.mail_tree.specs.declared.fault.TreeFault.TheVariants.{NotStore}
 use Rattle.mail_tree.specs.declared.fault.TreeFault.{TreeFault}
 use Rattle.mail_tree.specs.Changes.{due_open}
 use Rattle.imap_reply.specs.declared.reply.Reply.{Reply}
 use Rattle.imap_reply.specs.declared.reply.Reply.TheVariants as reply
-use Rattle.imap_reply.specs.declared.text.Words.TheVariants as words
 use Rattle.imap_reply.specs.declared.text.NoText.TheVariants as no
 use Rattle.imap_session.specs.State.{Selected, State, infos_of, Outcome, Unless, ◌>>=◌, fresh, selecting, unselected, changed_state, or_leaves}
 use Rattle.imap_session.specs.Refusals.{or_refused, the_name, unless_due, tree_refusal}

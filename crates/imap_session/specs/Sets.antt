@@ -8,7 +8,7 @@ use Rattle.imap_arguments.specs.declared.set.End.{End}
 use Rattle.imap_arguments.specs.declared.set.End.TheVariants.{Number, Largest}
 use Rattle.imap_arguments.specs.declared.set.Set.{Set}
 use Rattle.imap_reply.specs.declared.reply.Reply.TheVariants as reply
-use Rattle.imap_session.specs.State.{Selected, Unless, ◌>>=◌}
+use Rattle.imap_session.specs.State.{Unless}
 use Rattle.imap_session.specs.Refusals.{unless_true}
 
 -- the number by which a command names the message at a place: its UID behind UID, else its message number

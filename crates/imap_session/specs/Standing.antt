@@ -1,5 +1,5 @@
 -- When a session, over a disk, stands for a state.
-use Rattle.std.specs.Prelude.{ℕ, true, List, ◌≡◌, ◌≤◌, length, Option, Some, None}
+use Rattle.std.specs.Prelude.{true, ◌≡◌, ◌≤◌, length, Option, Some, None}
 use Rattle.file_model.specs.Disk.{Disk, seen}
 use Rattle.file_model.specs.Images.{Image, is_directory}
 use Rattle.store_trait.specs.Views.{View}

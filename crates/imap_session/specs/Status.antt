@@ -5,7 +5,7 @@ use Rattle.imap_arguments.specs.declared.item.StatusItem.TheVariants as items
 use Rattle.imap_reply.specs.declared.reply.Reply.{Reply}
 use Rattle.imap_reply.specs.declared.reply.Reply.TheVariants as reply
 use Rattle.imap_reply.specs.declared.text.Words.TheVariants as words
-use Rattle.imap_session.specs.State.{Selected, State, infos_of, Outcome, Unless, ◌>>=◌, done, or_leaves}
+use Rattle.imap_session.specs.State.{Selected, State, infos_of, Outcome, ◌>>=◌, done, or_leaves}
 use Rattle.imap_session.specs.Lines.{reply_line}
 use Rattle.imap_session.specs.Refusals.{tree_refusal, the_name}
 use Rattle.imap_session.specs.Select.{count_unseen, uid_next}

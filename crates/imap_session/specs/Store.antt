@@ -1,5 +1,5 @@
 -- STORE (RFC 3501, section 6.4.6).
-use Rattle.std.specs.Prelude.{ℕ, Bool, true, false, List, [], ◌∷◌, ◌++◌, ◌==◌, ◌&&◌, not, bit_or, nat_lt, if◌then◌else◌, length, slice_get, Option, Some, None, Ok}
+use Rattle.std.specs.Prelude.{ℕ, Bool, true, false, List, [], ◌∷◌, ◌++◌, ◌==◌, ◌&&◌, bit_or, nat_lt, if◌then◌else◌, length, slice_get, Option, Some, None, Ok}
 use Rattle.mail_types.specs.declared.flags.Flags.{Flags}
 use Rattle.mail_types.specs.declared.message.FlagChange.{FlagChange}
 use Rattle.store_trait.specs.declared.store.Info.{Info}
@@ -13,11 +13,10 @@ use Rattle.imap_arguments.specs.declared.item.Item.TheVariants as items
 use Rattle.imap_arguments.specs.declared.set.Set.{Set}
 use Rattle.imap_syntax.specs.declared.command.Mode.{Mode}
 use Rattle.imap_syntax.specs.declared.command.Mode.TheVariants.{Replace, Add, Remove}
-use Rattle.imap_reply.specs.declared.reply.Reply.{Reply}
 use Rattle.imap_reply.specs.declared.reply.Reply.TheVariants as reply
 use Rattle.imap_reply.specs.declared.text.Words.{Words}
 use Rattle.imap_reply.specs.declared.text.Words.TheVariants as words
-use Rattle.imap_session.specs.State.{Selected, State, infos_of, Outcome, Unless, ◌>>=◌, changed_selected, changed_state, done, or_leaves}
+use Rattle.imap_session.specs.State.{Selected, State, infos_of, Outcome, ◌>>=◌, changed_selected, changed_state, done, or_leaves}
 use Rattle.imap_session.specs.Refusals.{the_selected, writable}
 use Rattle.imap_session.specs.Sets.{named_places, unless_past}
 use Rattle.imap_session.specs.Names.{grown, numbers_of, without_numbers}

@@ -1,10 +1,8 @@
 -- SUBSCRIBE and UNSUBSCRIBE (RFC 3501, sections 6.3.6 and 6.3.7).
 use Rattle.std.specs.Prelude.{ℕ, List, [], Ok}
 use Rattle.mail_tree.specs.Changes.{subscribed_tree, due_unsubscribe, unsubscribed_tree}
-use Rattle.imap_reply.specs.declared.reply.Reply.{Reply}
-use Rattle.imap_reply.specs.declared.reply.Reply.TheVariants as reply
 use Rattle.imap_reply.specs.declared.text.Words.TheVariants as words
-use Rattle.imap_session.specs.State.{State, Outcome, Unless, ◌>>=◌, with_tree, done, or_leaves}
+use Rattle.imap_session.specs.State.{State, Outcome, ◌>>=◌, with_tree, done, or_leaves}
 use Rattle.imap_session.specs.Refusals.{the_name, unless_tree}
 
 abbrev pub subscribe : List ℕ → List ℕ → State → Outcome

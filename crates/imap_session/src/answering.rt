@@ -11,8 +11,8 @@ ghost use Rattle.imap_session.specs.State.{State};
 ghost use Rattle.imap_session.specs.Step.{commanded};
 
 use crate::commands::{
-    capability, check, close, create, delete, expunge, fetch, list, logout, lsub, password, rename,
-    select, status, store, subscribe, unsubscribe,
+    append, capability, check, close, create, delete, expunge, fetch, list, logout, lsub, password,
+    rename, select, status, store, subscribe, unsubscribe,
 };
 use crate::refusal::Refusal;
 use crate::session::Session;
@@ -82,8 +82,16 @@ pub fn command<H: Host, S: AnyMailbox<H> + Drop>(
             pattern.as_slice(),
             out,
         ),
-        Command::Append(..) | Command::Copy(..) | Command::Search(..) => {
-            Err(Refusal::Line(Reply::Bad(tag, 0)))
-        }
+        Command::Append(name, flags, stamp, text) => append::answer(
+            session,
+            host,
+            tag,
+            name.as_slice(),
+            flags,
+            *stamp,
+            text.as_slice(),
+            out,
+        ),
+        Command::Copy(..) | Command::Search(..) => Err(Refusal::Line(Reply::Bad(tag, 0))),
     }
 }

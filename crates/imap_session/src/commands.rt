@@ -1,4 +1,5 @@
 // The commands, one in a file.
+pub mod append;
 pub mod capability;
 pub mod check;
 pub mod close;

@@ -5,12 +5,14 @@
 //! files (`commit`), and then the lines, which go out in pieces.
 #![tactic(auto)]
 
+mod adding;
 mod answering;
 mod asking;
 pub mod commands;
 mod commit;
 mod counts;
 mod infos;
+mod keywords;
 mod lines;
 mod listing;
 mod named;

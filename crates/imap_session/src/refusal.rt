@@ -1,7 +1,7 @@
 // Why a command isn't done.
 ghost use Rattle.std.specs.Prelude.{◌≡◌};
 ghost use Rattle.imap_session.specs.Endings.{ends_with};
-ghost use Rattle.imap_session.specs.Refusals.{limit_text, open_text, store_text, tree_text, refused_by, answered_by};
+ghost use Rattle.imap_session.specs.Refusals.{limit_text, open_text, store_text, tree_text, refused_by, refused_by_store, answered_by};
 
 use imap_arguments::Tag;
 use imap_reply::{NoText, Reply, Words};
@@ -70,8 +70,8 @@ fn open_text(fault: OpenFault) -> NoText
     }
 }
 
-/// What a refusal by a store says.
-pub fn store_text(fault: StoreFault) -> NoText
+// What a refusal by a store says.
+fn store_text(fault: StoreFault) -> NoText
     ensures { result ≡ store_text fault }
 {
     match fault {
@@ -108,6 +108,17 @@ pub fn refused_by(tag: Tag, fault: TreeFault) -> Refusal
         TreeFault::Failed => Refusal::Ends(Stop::FileFault),
         TreeFault::Memory => Refusal::Ends(Stop::Memory),
         fault => Refusal::Line(Reply::Refused(tag, tree_text(fault))),
+    }
+}
+
+/// The store refuses a change; a failed call and want of memory end the session.
+pub fn refused_by_store(tag: Tag, fault: StoreFault) -> Refusal
+    ensures { result ≡ refused_by_store tag fault }
+{
+    match fault {
+        StoreFault::Failed => Refusal::Ends(Stop::FileFault),
+        StoreFault::Memory => Refusal::Ends(Stop::Memory),
+        fault => Refusal::Line(Reply::Refused(tag, store_text(fault))),
     }
 }
 

@@ -5,6 +5,8 @@
 #![tactic(auto)]
 
 #[cfg(test)]
+mod adding;
+#[cfg(test)]
 mod failing_calls;
 #[cfg(test)]
 mod limits;

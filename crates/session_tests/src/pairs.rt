@@ -19,6 +19,8 @@ UID FETCH 2 FLAGS
 STORE 2 +FLAGS (\Deleted Work)
 UID STORE 3 -FLAGS.SILENT \Deleted
 EXPUNGE
+APPEND inbox (\Seen Work) {2};hi
+APPEND team/work {2};hi
 CLOSE
 SEARCH ALL
 CREATE x/y

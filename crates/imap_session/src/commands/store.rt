@@ -20,9 +20,10 @@ ghost use Rattle.imap_session.specs.Store.{store, stored, flag_items};
 ghost use Rattle.imap_session.specs.Told.{told_change, told_lines};
 
 use crate::commands::fetch_line::{Looking, put_lines};
-use crate::commands::store_change::{adds_names, changes_at, next_names};
+use crate::commands::store_change::{adds_names, changes_at};
 use crate::commit::commit;
 use crate::infos::infos_of;
+use crate::keywords::next_names;
 use crate::named::{named_places, names_missing};
 use crate::refusal::{Refusal, ends_with};
 use crate::session::{Open, Session};

@@ -1,18 +1,16 @@
-// The flags and names of keywords after STORE (RFC 3501, section 6.4.6).
-ghost use Rattle.std.specs.Prelude.{◌≡◌, ◌++◌, ◌∷◌, ◌&&◌, ◌||◌, ◌≤◌, ◌<◌, ℕ, List, [], nat_le, slice_get, length, if◌then◌else◌, IfOk, OnOk};
+// The flags and keywords after STORE (RFC 3501, section 6.4.6).
+ghost use Rattle.std.specs.Prelude.{◌≡◌, ◌++◌, ◌&&◌, ◌≤◌, ◌<◌, ℕ, List, slice_get, length, IfOk, OnOk};
 ghost use Rattle.imap_arguments.specs.declared.flag.FlagList.{FlagList as GivenFlags};
-ghost use Rattle.imap_session.specs.Names.{has_name, grown, numbers_of};
+ghost use Rattle.imap_session.specs.Names.{numbers_of};
 ghost use Rattle.imap_session.specs.Store.{adds_names, stored_flags, stored_words, same_flags, real_change, change_of, changes_at};
 
-use crate::told::copied;
+use crate::keywords::numbers_of;
 use imap_arguments::FlagList;
 use imap_syntax::Mode;
 use mail_fields::Keyword;
 use mail_types::{FlagChange, Flags};
 use std::alloc::{AllocError, Global};
 use store_trait::Info;
-
-// ---- The names
 
 pub fn adds_names(mode: Mode) -> bool
     ensures { result ≡ adds_names mode }
@@ -22,79 +20,6 @@ pub fn adds_names(mode: Mode) -> bool
         Mode::Add => true,
         Mode::Remove => false,
     }
-}
-
-fn has_name(names: &[Keyword], name: &Keyword) -> bool
-    ensures { result ≡ has_name names.now name.now }
-{
-    names.iter().any(|other| name.same(other))
-}
-
-// Puts a new name behind the others, while there is room.
-fn add_name(
-    alloc: Global,
-    names: &mut Vec<Keyword>,
-    room: usize,
-    name: &Keyword,
-) -> Result<(), AllocError>
-    ensures { OnOk result (names.new.items ≡ (if has_name names.old.items name.now || nat_le room (length names.old.items) then names.old.items else names.old.items ++ name.now ∷ [])) }
-{
-    if !has_name(names.as_slice(), name) && names.len() < room {
-        names.push(name.copy(alloc)?)?;
-    }
-    Ok(())
-}
-
-fn grown(
-    alloc: Global,
-    room: usize,
-    names: &[Keyword],
-    given: &[Keyword],
-) -> Result<Vec<Keyword>, AllocError>
-    ensures { IfOk result (λ next. next.items ≡ grown room names.now given.now) }
-{
-    let mut next = copied(alloc, names)?;
-    for name in given {
-        add_name(alloc, &mut next, room, name)?;
-    }
-    Ok(next)
-}
-
-/// The names after a command, which adds the given ones or not.
-#[tactic(auto, using(crate::proofs::Storing::grown_few))]
-pub fn next_names(
-    alloc: Global,
-    adds: bool,
-    room: usize,
-    names: &[Keyword],
-    given: &[Keyword],
-) -> Result<Vec<Keyword>, AllocError>
-    ensures are { IfOk result (λ next. next.items ≡ (if adds then grown room names.now given.now else names.now)) }
-    ensures few { length names.now ≤ room → IfOk result (λ next. length next.items ≤ room) }
-{
-    if adds {
-        grown(alloc, room, names, given)
-    } else {
-        copied(alloc, names)
-    }
-}
-
-fn bit_if(set: bool) -> u32
-    ensures { result ≡ (if set then 1 else 0) }
-{
-    u32::from(set)
-}
-
-// The numbers of the given names, as bits: from the last number to the first.
-fn numbers_of(given: &[Keyword], names: &[Keyword]) -> u32
-    requires { length names.now ≤ 32 }
-    ensures { result ≡ numbers_of given.now names.now }
-{
-    let mut bits = 0;
-    for k in 0..names.len() {
-        bits = 2 * bits + bit_if(has_name(given, &names[names.len() - 1 - k]));
-    }
-    bits
 }
 
 // ---- The flags

@@ -1,15 +1,11 @@
-use Rattle.std.proofs.Common.{◌≡◌, refl, sym, subst, ap}
+use Rattle.std.proofs.Common.{sym, subst, ap}
 use Rattle.any_store.specs.Choice.{formats_of, chosen}
-use Rattle.file_model.specs.Disk.{Disk}
-use Rattle.file_model.specs.Histories.{Now}
 use Rattle.file_model.proofs.Runs.{now_weaker}
 use Rattle.imap_grammar.specs.Sound.{IsSound}
-use Rattle.imap_grammar.specs.declared.unit.Unit.TheVariants as units
 use Rattle.imap_reply.specs.declared.reply.Reply.TheVariants as reply
-use Rattle.imap_session.specs.Doing.{Does, DoesUnit}
-use Rattle.imap_session.specs.declared.session.Session.{Session}
+use Rattle.imap_session.specs.Doing.{Does}
 use Rattle.imap_session.specs.Standing.{StandsFor}
-use Rattle.imap_session.specs.State.{State, counted, next_fresh}
+use Rattle.imap_session.specs.State.{State, counted}
 use Rattle.imap_session.specs.Step.{commanded, outcome_of}
 use Rattle.imap_session.proofs.Causes.{none_called}
 use Rattle.imap_session.proofs.Counting.{counted_stands}

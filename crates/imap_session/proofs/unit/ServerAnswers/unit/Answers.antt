@@ -1,4 +1,4 @@
-use Rattle.std.proofs.Common.{◌≡◌, List, ℕ, Result, Ok, Err, OnOk, refl}
+use Rattle.std.proofs.Common.{Ok}
 use Rattle.any_store.specs.Choice.{formats_of, chosen}
 use Rattle.mail_tree.proofs.Nodes.{AreFormats}
 use Rattle.imap_session.specs.Standing.{StandsFor}

@@ -1,6 +1,6 @@
 use Rattle.std.proofs.Common.{◌≡◌, ◌-◌, ◌<◌, ◌^◌, length, drop}
 use Rattle.imap_session.specs.Names.{numbers_of}
-use Rattle.imap_session.proofs.commands.store_change.numbers_of.Given as goal
+use Rattle.imap_session.proofs.keywords.numbers_of.Given as goal
 
 abbrev pub invariant-loop-k : goal.invariant-loop-k
 invariant-loop-k l = record {
