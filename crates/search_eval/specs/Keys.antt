@@ -35,13 +35,15 @@ body_has string text = is_inside string (drop (body_start_of text) text)
 abbrev pub sent_day : (text : List ℕ) → Option ℤ
 sent_day text = text_of (codes "Date") (readings_of (header_of text)) >>= field_date_of
 
--- a day is before the one that is asked for, is that one, or isn't before it
+-- a day is before the one that is asked for
 abbrev pub is_before : (asked : ℤ) → ℤ → Bool
 is_before asked day = int_lt day asked
 
+-- it is that one
 abbrev pub is_on : (asked : ℤ) → ℤ → Bool
 is_on asked day = int_eq day asked
 
+-- it is that one or a later one
 abbrev pub is_since : (asked : ℤ) → ℤ → Bool
 is_since asked day = not (int_lt day asked)
 

@@ -15,6 +15,7 @@ greater_need needs.Header needs.Nothing = needs.Header
 greater_need needs.Header needs.Header = needs.Header
 greater_need needs.Nothing other = other
 
+-- what several keys need together
 abbrev pub all_needs : List KeyNeed → KeyNeed
 all_needs [] = needs.Nothing
 all_needs (need ∷ more) = greater_need need (all_needs more)

@@ -7,6 +7,7 @@ use Rattle.looked_message.specs.Messages.{LookedAt}
 use Rattle.search_eval.specs.Keys.{key_row}
 use Rattle.search_eval.specs.declared.largest.Largest.{Largest}
 
+-- that the opposite holds is told where the other is
 abbrev pub opposite_told : Option Bool → Option Bool
 opposite_told None = None
 opposite_told (Some holds) = Some (not holds)
@@ -27,6 +28,7 @@ both_told None (Some false) = Some false
 both_told None (Some true) = None
 both_told None None = None
 
+-- the same of several
 abbrev pub all_told : List (Option Bool) → Option Bool
 all_told [] = Some true
 all_told (told ∷ more) = both_told told (all_told more)
