@@ -22,6 +22,7 @@ pub mod NamesSaid
 pub mod Opens
 pub mod Places
 pub mod Putting
+pub mod Readings
 pub mod Rooted
 pub mod Saying
 pub mod Selecting

@@ -18,6 +18,7 @@ pub mod Opening
 pub mod Plain
 pub mod Protocol
 pub mod Putting
+pub mod Reading
 pub mod Refusals
 pub mod Rename
 pub mod Select

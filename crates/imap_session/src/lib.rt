@@ -17,6 +17,7 @@ mod lines;
 mod listing;
 mod named;
 mod opening;
+mod reading;
 mod refusal;
 mod session;
 mod told;
