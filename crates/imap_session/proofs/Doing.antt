@@ -161,7 +161,7 @@ module _ (formats : Formats) where
 
 -- ---- A command that leads to the same
 
-answered_as : (result : Result Reply Refusal) (P Q : Reply → Type 0) → ((last : Reply) → P last → Q last) → IfAnswered result P → IfAnswered result Q
+pub answered_as : (result : Result Reply Refusal) (P Q : Reply → Type 0) → ((last : Reply) → P last → Q last) → IfAnswered result P → IfAnswered result Q
 answered_as (Ok last) P Q turn is = turn last is
 answered_as (Err (Refused line)) P Q turn is = turn line is
 answered_as (Err (Ends stop)) P Q turn is = tt

@@ -6,6 +6,7 @@ pub mod Causes
 pub mod Changing
 pub mod Closing
 pub mod Committing
+pub mod Copying
 pub mod Counting
 pub mod Doing
 pub mod Dues

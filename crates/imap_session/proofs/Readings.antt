@@ -1,23 +1,24 @@
 -- What reads of texts leave, and what they give.
-use Rattle.std.proofs.Common.{ℕ, zero, suc, List, [], ◌∷◌, ◌++◌, ◌≡◌, ◌≤◌, refl, sym, ◌∙◌, ap, subst, arith, false, map, length, take, drop, min, slice_get, Option, Some, None, Result, Ok, OnOk}
+use Rattle.std.proofs.Common.{ℕ, zero, suc, List, [], ◌∷◌, ◌++◌, ◌≡◌, refl, sym, ◌∙◌, ap, subst, arith, map, length, take, slice_get, Option, Some, None, Result}
 use Rattle.std.proofs.lemmas.List.{take_all}
 use Rattle.file_model.specs.Disk.{Disk, seen}
-use Rattle.file_model.specs.Histories.{World, History, Now}
-use Rattle.file_model.proofs.Runs.{now_weaker}
+use Rattle.file_model.specs.Arrived.{Arrived}
+use Rattle.file_model.specs.Histories.{World, History, Now, Passed}
 use Rattle.mail_types.specs.declared.message.Record.{Record}
 use Rattle.store_trait.specs.Forms.{Forms}
 use Rattle.store_trait.specs.Laws.{IsView}
-use Rattle.store_trait.specs.Promises.{IsSame, GivesText}
+use Rattle.store_trait.specs.Promises.{GivesText}
 use Rattle.store_trait.specs.Views.{View, info_of, size_in, size_at, text_in, text_at}
 use Rattle.any_store.specs.Choice.{Formats}
 use Rattle.imap_reply.specs.declared.reply.Reply.{Reply}
 use Rattle.imap_session.specs.declared.refusal.Refusal.{Refusal}
 use Rattle.imap_session.specs.declared.session.Open.{Open}
 use Rattle.imap_session.specs.declared.session.Session.{Session}
-use Rattle.imap_session.specs.Doing.{Replying, HasReplied, Does}
+use Rattle.imap_session.specs.Doing.{Replying, HasReplied, IfAnswered, Does}
 use Rattle.imap_session.specs.Reading.{ReadsOn}
 use Rattle.imap_session.specs.Standing.{IsSelection, StandsFor}
 use Rattle.imap_session.specs.State.{Selected, State, Outcome}
+use Rattle.imap_session.proofs.Doing.{answered_as, untold_passed}
 
 -- ---- A whole text
 
@@ -108,10 +109,27 @@ module _ {S : Type 0} (formats : Formats) (view : S → View) where
     selected = selection_on state o store w past state.selected reads (subst (λ selected. IsSelection formats view state selected (seen w.disk) state.selected) some now.selected);
   }
 
--- what is done from where something holds that held before it
-pub does_before : (formats : Formats) (before mid after : Disk → State → Type 0) (lead : State → Outcome) (result : Result Reply Refusal) (waits : List ℕ) (old new : History)
-    → ((state : State) → Now old (λ w. before w.disk state) → Now old (λ w. mid w.disk state)) → Does formats mid after lead result waits old new → Does formats before after lead result waits old new
-does_before formats before mid after lead result waits old new on does = record {
-  instants = λ state now. does.instants state (on state now);
-  done = λ state now. does.done state (on state now);
+  pub some_stands_on : (session : Session S) (o : Open S) (store : S) (h : History) → session.selected ≡ Some o → ReadsOn (view o.store) (view store) h
+      → Now h (λ w. (state : State) × StandsFor formats view session w.disk state) → Now h (λ w. (state : State) × StandsFor formats view (record session { selected = Some (with_store o store) }) w.disk state)
+  some_stands_on session o store [] some reads now = tt
+  some_stands_on session o store (w ∷ past) some reads now = (now.0, stands_on session o store (w ∷ past) now.0 some reads now.1)
+
+  -- also with the history as the reads left it
+  pub some_behind : (session : Session S) (o : Open S) (store : S) (old new : History) → session.selected ≡ Some o → new ≡ old → ReadsOn (view o.store) (view store) old
+      → Now old (λ w. (state : State) × StandsFor formats view session w.disk state) → Now new (λ w. (state : State) × StandsFor formats view (record session { selected = Some (with_store o store) }) w.disk state)
+  some_behind session o store old new some same reads now =
+      subst (λ h. Now h (λ w. (state : State) × StandsFor formats view (record session { selected = Some (with_store o store) }) w.disk state)) (sym same) (some_stands_on session o store old some reads now)
+
+-- what is done behind reads, and leads to the same as from before them
+pub does_behind : (formats : Formats) (before mid after : Disk → State → Type 0) (lead other : State → Outcome) (result : Result Reply Refusal) (waits : List ℕ) (old new : History)
+    → ((state : State) → Now old (λ w. before w.disk state) → Now old (λ w. mid w.disk state)) → ((state : State) → Now old (λ w. before w.disk state) → Now old (λ w. lead state ≡ other state))
+    → Does formats mid after lead result waits old new → Does formats before after other result waits old new
+does_behind formats before mid after lead other result waits [] new on same does = record {
+  instants = λ state now. untold_passed (Replying formats state (lead state)) (Replying formats state (other state)) new (does.instants state tt);
+  done = λ state now. answered_as result (λ last. Arrived (HasReplied formats after state (lead state) last waits) [] new) (λ last. Arrived (HasReplied formats after state (other state) last waits) [] new)
+      (λ last is. is) (does.done state tt);
+}
+does_behind formats before mid after lead other result waits (w ∷ past) new on same does = record {
+  instants = λ state now. subst (λ o. Passed (Replying formats state o) (w ∷ past) new) (same state now) (does.instants state (on state now));
+  done = λ state now. subst (λ o. IfAnswered result (λ last. Arrived (HasReplied formats after state o last waits) (w ∷ past) new)) (same state now) (does.done state (on state now));
 }

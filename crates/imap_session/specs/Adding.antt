@@ -3,6 +3,7 @@ use Rattle.std.specs.Prelude.{ℕ, Bool, true, false, List, [], ◌∷◌, ◌++
 use Rattle.std.specs.List.{filter, list_all, list_any}
 use Rattle.mail_fields.specs.declared.stamp.Stamp.{Stamp}
 use Rattle.mail_types.specs.declared.driver.Driver.{Driver}
+use Rattle.mail_types.specs.declared.mailbox.Mailbox.{Mailbox}
 use Rattle.mail_types.specs.declared.message.NewMessage.{NewMessage}
 use Rattle.mail_types.specs.declared.message.Record.{Record}
 use Rattle.mail_types.specs.Drivers.{keeps_of}
@@ -121,9 +122,9 @@ abbrev pub brought_of : Option Record → (names : List (List ℕ)) → List Bro
 brought_of None names = []
 brought_of (Some r) names = record { text = r.text; stamp = r.stamp; flags = r.flags; names = names_of r.words names } ∷ []
 
-abbrev pub brought_from : Selected → List ℕ → List Brought
-brought_from s [] = []
-brought_from s (place ∷ places) = brought_of (slice_get s.placed.mailbox.records place) s.placed.mailbox.words ++ brought_from s places
+abbrev pub brought_from : Mailbox → List ℕ → List Brought
+brought_from m [] = []
+brought_from m (place ∷ places) = brought_of (slice_get m.records place) m.words ++ brought_from m places
 
 -- the names that one of them has, in the order of the source's list
 abbrev pub names_among : List Brought → List (List ℕ) → List (List ℕ)
@@ -140,4 +141,4 @@ copy formats tag uid set bytes state = or_leaves state (do
   s ← the_selected tag state
   there ← unless_past tag uid set (infos_of s)
   name ← the_name tag bytes
-  copy_to formats tag uid state s name (brought_from s (named_places uid set (infos_of s))))
+  copy_to formats tag uid state s name (brought_from s.placed.mailbox (named_places uid set (infos_of s))))

@@ -16,7 +16,7 @@ use Rattle.imap_session.specs.Rename.{rename}
 use Rattle.imap_session.specs.Subscribe.{subscribe, unsubscribe}
 use Rattle.imap_session.specs.Listed.{list, lsub}
 use Rattle.imap_session.specs.Status.{status}
-use Rattle.imap_session.specs.Adding.{append}
+use Rattle.imap_session.specs.Adding.{append, copy}
 use Rattle.imap_session.specs.Expunge.{expunge, close}
 use Rattle.imap_session.specs.Fetch.{fetch}
 use Rattle.imap_session.specs.Store.{store}
@@ -28,7 +28,7 @@ use Rattle.imap_session.specs.Lines.{Line}
 abbrev pub not_built : List ℕ → State → Outcome
 not_built tag state = only state (reply.Bad tag 0)
 
--- what a command leads to, in a state that counts it; COPY, SEARCH and the items of FETCH that read texts aren't built
+-- what a command leads to, in a state that counts it; SEARCH and the items of FETCH that read texts aren't built
 abbrev pub commanded : Formats → List ℕ → Command → State → Outcome
 commanded formats tag commands.Capability state = capability tag state
 commanded formats tag commands.Noop state = noop tag state
@@ -51,7 +51,7 @@ commanded formats tag (commands.Append name flags stamp text) state = append for
 commanded formats tag (commands.Search uid charset key) state = not_built tag state
 commanded formats tag (commands.Fetch uid set items) state = if list_all is_built items then fetch tag uid set items state else not_built tag state
 commanded formats tag (commands.Store uid set mode silent flags) state = store formats tag uid set mode silent flags state
-commanded formats tag (commands.Copy uid set name) state = not_built tag state
+commanded formats tag (commands.Copy uid set name) state = copy formats tag uid set name state
 
 -- each unit but the announcement of a literal counts as a command
 abbrev pub outcome_of : Formats → State → client.Unit → Outcome

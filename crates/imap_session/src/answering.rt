@@ -11,8 +11,8 @@ ghost use Rattle.imap_session.specs.State.{State};
 ghost use Rattle.imap_session.specs.Step.{commanded};
 
 use crate::commands::{
-    append, capability, check, close, create, delete, expunge, fetch, list, logout, lsub, password,
-    rename, select, status, store, subscribe, unsubscribe,
+    append, capability, check, close, copy, create, delete, expunge, fetch, list, logout, lsub,
+    password, rename, select, status, store, subscribe, unsubscribe,
 };
 use crate::refusal::Refusal;
 use crate::session::Session;
@@ -92,6 +92,15 @@ pub fn command<H: Host, S: AnyMailbox<H> + Drop>(
             text.as_slice(),
             out,
         ),
-        Command::Copy(..) | Command::Search(..) => Err(Refusal::Line(Reply::Bad(tag, 0))),
+        Command::Copy(uid, set, name) => copy::answer(
+            session,
+            host,
+            tag,
+            *uid,
+            set,
+            name.as_slice(),
+            out,
+        ),
+        Command::Search(..) => Err(Refusal::Line(Reply::Bad(tag, 0))),
     }
 }

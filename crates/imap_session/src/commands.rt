@@ -3,6 +3,7 @@ pub mod append;
 pub mod capability;
 pub mod check;
 pub mod close;
+pub mod copy;
 pub mod create;
 pub mod delete;
 pub mod expunge;

@@ -1,9 +1,13 @@
 // The names of keywords in a mailbox, and the numbers by which messages have them.
 ghost use Rattle.std.specs.Prelude.{◌≡◌, ◌++◌, ◌∷◌, ◌||◌, ◌≤◌, ◌<◌, [], nat_le, length, if◌then◌else◌, IfOk, OnOk};
-ghost use Rattle.imap_session.specs.Names.{has_name, grown, numbers_of};
+ghost use Rattle.std.specs.List.{list_any};
+ghost use Rattle.imap_session.specs.declared.adding.Brought.{Brought as Message};
+ghost use Rattle.imap_session.specs.Adding.{names_among};
+ghost use Rattle.imap_session.specs.Names.{has_name, grown, numbers_of, names_of};
 
+use crate::adding::Brought;
 use crate::told::copied;
-use mail_fields::Keyword;
+use mail_fields::{Keyword, Keywords};
 use std::alloc::{AllocError, Global};
 
 fn has_name(names: &[Keyword], name: &Keyword) -> bool
@@ -77,4 +81,57 @@ pub fn numbers_of(given: &[Keyword], names: &[Keyword]) -> u32
         bits = 2 * bits + bit_if(has_name(given, &names[names.len() - 1 - k]));
     }
     bits
+}
+
+/// The names whose numbers are set.
+pub fn names_of(alloc: Global, numbers: u32, names: &[Keyword]) -> Result<Keywords, AllocError>
+    ensures { IfOk result (λ given. given ≡ names_of numbers names.now) }
+{
+    let mut given = Vec::new(alloc);
+    let mut left = numbers;
+    for name in names {
+        if left % 2 == 1 {
+            given.push(name.copy(alloc)?)?;
+        }
+        left /= 2;
+    }
+    Ok(Keywords::of(given))
+}
+
+fn any_has(brought: &[Brought], name: &Keyword) -> bool
+    ensures { result ≡ list_any (λ (b : Message). has_name b.names name.now) brought.now }
+{
+    brought
+        .iter()
+        .any(|message| has_name(message.names.as_slice(), name))
+}
+
+// Puts a name behind others where a message has it.
+fn add_if_had(
+    alloc: Global,
+    among: &mut Vec<Keyword>,
+    brought: &[Brought],
+    name: &Keyword,
+) -> Result<(), AllocError>
+    ensures { OnOk result (among.new.items ≡ (if list_any (λ (b : Message). has_name b.names name.now) brought.now then among.old.items ++ name.now ∷ [] else among.old.items)) }
+{
+    if any_has(brought, name) {
+        among.push(name.copy(alloc)?)?;
+    }
+    Ok(())
+}
+
+/// The names that one of these messages has, in the order of the list.
+pub fn names_among(
+    alloc: Global,
+    brought: &[Brought],
+    names: &[Keyword],
+) -> Result<Vec<Keyword>, AllocError>
+    ensures { IfOk result (λ among. among.items ≡ names_among brought.now names.now) }
+{
+    let mut among = Vec::new(alloc);
+    for name in names {
+        add_if_had(alloc, &mut among, brought, name)?;
+    }
+    Ok(among)
 }

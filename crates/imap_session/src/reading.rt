@@ -49,6 +49,7 @@ pub fn read_whole<F: Files, S: Store<F>>(
     ensures gives { OnOk result (Now (F.history files.old) (λ w. buf.new.items ≡ text_at ((S.view store.old).mailbox (seen w.disk)) place)) }
     ensures size { OnOk result (length buf.new.items ≡ size_at (S.view store.old).summary place) }
     ensures clean { OnOk result (has_no_nul buf.new.items ≡ true) }
+    ensures told { OnOk result (Now (F.history files.old) (λ w. (S.view store.old).stands (seen w.disk))) }
     ensures reads_on { OnOk result (ReadsOn (S.view store.old) (S.view store.new) (F.history files.old)) }
     ensures standing { CanAsk (S.view store.new) (F.history files.old) }
     ensures history { F.history files.new ≡ F.history files.old }

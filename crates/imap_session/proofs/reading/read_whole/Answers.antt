@@ -1,4 +1,4 @@
-use Rattle.std.proofs.Common.{◌∙◌, sym, ap, ℕ, ◌≡◌, arith, if◌then◌else◌}
+use Rattle.std.proofs.Common.{◌∙◌, sym, ap, if◌then◌else◌}
 use Rattle.std.specs.Vec.{vec_len}
 use Rattle.store_trait.specs.Views.{size_in}
 use Rattle.imap_session.proofs.Readings.{whole_text}
