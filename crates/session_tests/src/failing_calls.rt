@@ -9,7 +9,7 @@ use std::test::Fail;
 // A change of each kind.
 const INPUT: &[u8] =
     b"a SELECT INBOX\r\nb STORE 1:2 +FLAGS (\\Deleted Work)\r\nc FETCH 1:3 (UID FLAGS)\r\nd EXPUNGE\r\n\
-k APPEND INBOX (new) {2}\r\nhi\r\nl APPEND team/work {2}\r\nho\r\n\
+k APPEND INBOX (new) {2}\r\nhi\r\nl APPEND team/work {2}\r\nho\r\nm COPY 1:2 team/work\r\n\
 e CREATE x/y\r\nf RENAME x z\r\ng SUBSCRIBE z/y\r\nh UNSUBSCRIBE z/y\r\ni DELETE z/y\r\nj LIST \"\" *\r\n";
 
 // The input comes in three pieces, the second a byte inside a line.

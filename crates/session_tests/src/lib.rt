@@ -6,6 +6,7 @@
 
 #[cfg(test)]
 mod adding;
+mod copying;
 #[cfg(test)]
 mod failing_calls;
 #[cfg(test)]

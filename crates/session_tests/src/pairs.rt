@@ -21,6 +21,8 @@ UID STORE 3 -FLAGS.SILENT \Deleted
 EXPUNGE
 APPEND inbox (\Seen Work) {2};hi
 APPEND team/work {2};hi
+COPY 2 team/work
+UID COPY 1:3 INBOX
 CLOSE
 SEARCH ALL
 CREATE x/y
