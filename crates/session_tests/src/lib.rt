@@ -6,6 +6,7 @@
 
 #[cfg(test)]
 mod adding;
+#[cfg(test)]
 mod copying;
 #[cfg(test)]
 mod failing_calls;
