@@ -26,6 +26,8 @@ pub mod Putting
 pub mod Readings
 pub mod Rooted
 pub mod Saying
+pub mod SearchSaid
+pub mod Searches
 pub mod Selecting
 pub mod Selections
 pub mod Stopping

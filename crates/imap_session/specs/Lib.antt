@@ -21,6 +21,7 @@ pub mod Putting
 pub mod Reading
 pub mod Refusals
 pub mod Rename
+pub mod Search
 pub mod Select
 pub mod Selecting
 pub mod Sets

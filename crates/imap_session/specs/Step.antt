@@ -19,6 +19,7 @@ use Rattle.imap_session.specs.Status.{status}
 use Rattle.imap_session.specs.Adding.{append, copy}
 use Rattle.imap_session.specs.Expunge.{expunge, close}
 use Rattle.imap_session.specs.Fetch.{fetch}
+use Rattle.imap_session.specs.Search.{search}
 use Rattle.imap_session.specs.Store.{store}
 use Rattle.any_store.specs.Choice.{Formats}
 use Rattle.imap_session.specs.Items.{is_built}
@@ -28,7 +29,7 @@ use Rattle.imap_session.specs.Lines.{Line}
 abbrev pub not_built : List ℕ → State → Outcome
 not_built tag state = only state (reply.Bad tag 0)
 
--- what a command leads to, in a state that counts it; SEARCH and the items of FETCH that read texts aren't built
+-- what a command leads to, in a state that counts it; the items of FETCH that read texts aren't built
 abbrev pub commanded : Formats → List ℕ → Command → State → Outcome
 commanded formats tag commands.Capability state = capability tag state
 commanded formats tag commands.Noop state = noop tag state
@@ -48,7 +49,7 @@ commanded formats tag (commands.List reference pattern) state = list tag referen
 commanded formats tag (commands.Lsub reference pattern) state = lsub tag reference pattern state
 commanded formats tag (commands.Status name items) state = status tag name items state
 commanded formats tag (commands.Append name flags stamp text) state = append formats tag name flags stamp text state
-commanded formats tag (commands.Search uid charset key) state = not_built tag state
+commanded formats tag (commands.Search uid charset key) state = search tag uid charset key state
 commanded formats tag (commands.Fetch uid set items) state = if list_all is_built items then fetch tag uid set items state else not_built tag state
 commanded formats tag (commands.Store uid set mode silent flags) state = store formats tag uid set mode silent flags state
 commanded formats tag (commands.Copy uid set name) state = copy formats tag uid set name state

@@ -12,7 +12,7 @@ ghost use Rattle.imap_session.specs.Step.{commanded};
 
 use crate::commands::{
     append, capability, check, close, copy, create, delete, expunge, fetch, list, logout, lsub,
-    password, rename, select, status, store, subscribe, unsubscribe,
+    password, rename, search, select, status, store, subscribe, unsubscribe,
 };
 use crate::refusal::Refusal;
 use crate::session::Session;
@@ -101,6 +101,8 @@ pub fn command<H: Host, S: AnyMailbox<H> + Drop>(
             name.as_slice(),
             out,
         ),
-        Command::Search(..) => Err(Refusal::Line(Reply::Bad(tag, 0))),
+        Command::Search(uid, charset, key) => search::answer(
+            session, host, tag, *uid, charset, key, out,
+        ),
     }
 }

@@ -14,6 +14,7 @@ pub mod logout;
 pub mod lsub;
 pub mod password;
 pub mod rename;
+pub mod search;
 pub mod select;
 pub mod status;
 pub mod store;

@@ -9,15 +9,16 @@ use imap_arguments::{End, Set};
 use std::alloc::{AllocError, Global};
 use store_trait::Info;
 
-// The number by which a command names the message at a place.
-fn number_at(uid: bool, place: usize, info: &Info) -> u32
+/// The number by which a command names the message at a place.
+pub fn number_at(uid: bool, place: usize, info: &Info) -> u32
     requires { place < record_limit }
     ensures { result ≡ number_at uid place info.now }
 {
     if uid { info.uid } else { place as u32 + 1 }
 }
 
-fn greatest_uid(infos: &[Info]) -> u32
+/// The greatest UID, 0 where there is none.
+pub fn greatest_uid(infos: &[Info]) -> u32
     ensures { result ≡ greatest (map (λ (i : ToldInfo). i.uid) infos.now) }
 {
     let mut most = 0;

@@ -23,6 +23,8 @@ mod replies;
 #[cfg(test)]
 mod run;
 #[cfg(test)]
+mod searching;
+#[cfg(test)]
 mod streams;
 #[cfg(test)]
 mod words;

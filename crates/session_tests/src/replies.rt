@@ -37,7 +37,7 @@ file  | a LIST {0}; {1};%; => + Ready;+ Ready;* LIST (\\NoInferiors) "/" INBOX;a
 # no mailbox is selected
 file  | a CHECK;b CLOSE;c EXPUNGE;d FETCH 1 FLAGS;e STORE 1 FLAGS ();f UID FETCH 1 FLAGS; => a BAD no mailbox selected;b BAD no mailbox selected;c BAD no mailbox selected;d BAD no mailbox selected;e BAD no mailbox selected;f BAD no mailbox selected;
 # what isn't built
-file  | a SEARCH ALL;b FETCH 1 BODY[];c FETCH 1 (FLAGS ENVELOPE); => a BAD not built;b BAD not built;c BAD not built;
+file  | b FETCH 1 BODY[];c FETCH 1 (FLAGS ENVELOPE); => b BAD not built;c BAD not built;
 # the first reason or refusal counts
 mail | a FROB;b FETCH 1 FLAGS;c SELECT ../x;d DELETE inbox;e NOOP x; => a BAD unknown command;b BAD no mailbox selected;c NO bad mailbox name;d NO INBOX is reserved;e BAD text after the command;
 # an inbox that isn't a mailbox
