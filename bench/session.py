@@ -1,5 +1,5 @@
 #!/usr/bin/env python3
-"""Times sessions of the built imapd over a unix mailbox of 10,000 messages and 48 MB, beside `wc -l` of the same file.
+"""Times sessions of the built imapd over a unix mailbox of 10,000 messages and 48 MB, beside `wc -l` and `grep` of the same file.
 
 Run from anywhere, after ./run imapd has built the program: bench/session.py
 Prints what was measured; it judges nothing."""
@@ -76,6 +76,24 @@ def wc_seconds(path):
     return time.perf_counter() - start
 
 
+def grep_seconds(path):
+    start = time.perf_counter()
+    subprocess.run(["grep", "-c", "-i", "-F", "no such words", path], stdout=subprocess.PIPE)
+    return time.perf_counter() - start
+
+
+def search(root, path):
+    """Searches that need no text, headers and texts; a unix mailbox has its texts in memory."""
+    grep = best(5, lambda: grep_seconds(path))
+    print(f"grep -c -i -F: {1000 * grep:.1f} ms")
+    session = Session(root)
+    session.ask(b"EXAMINE INBOX")
+    for keys in (b"ALL", b"UNSEEN", b"SINCE 3-Apr-2024", b'SUBJECT "matter 96"', b"FROM writer7@", b'TEXT "no such words"'):
+        seconds = best(5, lambda: session.ask(b"SEARCH " + keys)[0])
+        print(f"SEARCH {keys.decode()}: {1000 * seconds:.1f} ms, {seconds / grep:.2f} times grep")
+    session.end()
+
+
 def opened(root, command):
     """The seconds that a fresh session takes for a command, and its peak memory."""
     session = Session(root)
@@ -108,6 +126,7 @@ def main():
         seconds = sum(session.ask(b"NOOP")[0] for _ in range(100))
         print(f"100 NOOPs: {1000 * seconds:.1f} ms; peak {session.peak():.1f} MB")
         session.end()
+        search(root, path)
 
 
 main()
